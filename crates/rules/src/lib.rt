@@ -1,0 +1,252 @@
+// The types of the desk hub: what events, records, sheets, the hub and its answers are. No function: the rules stand in specs/ as definitions.
+
+// What an event says. The cases that hold a value hold name, code and value; a button's name is 0..19, an axis's 32..40.
+pub enum EventType {
+    Pressed(u8, u32),
+    Released(u8, u32),
+    Repeated(u8, u32),
+    Changed(u8, u32, f32),
+    Axis(u8, u32, f32),
+    Connected,
+    Disconnected,
+    Dropped,
+}
+
+pub struct Event {
+    pub pad: u8,
+    pub time: u64,
+    pub event: EventType,
+}
+
+// An event that waits, as plain numbers: nothing that leads to an enum can cross the C boundary, and the hub holds these.
+pub struct Slot {
+    pub kind: u8,
+    pub pad: u8,
+    pub name: u8,
+    pub code: u32,
+    pub value: f32,
+    pub time: u64,
+}
+
+// A raw record, as its 21 bytes read.
+pub struct RawRecord {
+    pub kind: u8,
+    pub pad: u8,
+    pub code: u32,
+    pub value: i32,
+    pub time: u64,
+}
+
+// What reading a raw record finds.
+pub enum RecordRead {
+    Record(RawRecord),
+    Malformed,
+}
+
+// An event's 22 bytes, as they stand: the value is still bits.
+pub struct EventForm {
+    pub kind: u8,
+    pub pad: u8,
+    pub name: u8,
+    pub code: u32,
+    pub bits: u32,
+    pub time: u64,
+}
+
+// What reading an event finds.
+pub enum EventRead {
+    Form(EventForm),
+    Malformed,
+}
+
+// An element as its sheet lists it.
+pub struct SheetElement {
+    pub code: u32,
+    pub kind: u8,
+    pub name: u8,
+    pub min: i32,
+    pub max: i32,
+    pub deadzone: u32,
+}
+
+pub struct Sheet {
+    pub hats: u8,
+    pub count: u8,
+    pub elements: [SheetElement; 48],
+}
+
+// What reading a sheet finds. The sheet stands beside the answer, since an enum holds no array.
+pub enum SheetAnswer {
+    Read,
+    Refused(u8),
+}
+
+pub struct SheetRead {
+    pub answer: SheetAnswer,
+    pub sheet: Sheet,
+}
+
+// What the hub keeps of an axis element: its lowest value and its range as binary32, whether the range is odd, and its deadzone threshold.
+pub struct Element {
+    pub low: f32,
+    pub range: f32,
+    pub odd: bool,
+    pub threshold: f32,
+}
+
+// One of a pad's 52 places, as registration lays it: kind 0 is a direction that the sheet does not list, or a place past the last.
+pub struct Row {
+    pub code: u32,
+    pub kind: u8,
+    pub name: u8,
+    pub element: Element,
+}
+
+pub struct ButtonData {
+    pub value: f32,
+    pub stamp: u64,
+    pub counter: u64,
+    pub pressed: bool,
+    pub repeating: bool,
+}
+
+// An axis record keeps value, stamp and counter together.
+pub struct AxisData {
+    pub value: f32,
+    pub stamp: u64,
+    pub counter: u64,
+}
+
+// The hub. A pad has 52 places in code order, pad p the places 52 p to 52 p + 51; place 208 is no pad's, and stands for a code that is not there.
+pub struct Hub {
+    pub pressed: f32,
+    pub released: f32,
+    pub reversed: bool,
+    pub filters: bool,
+    pub updates: bool,
+    pub counter: u64,
+    pub pads: u8,
+    pub counts: [u8; 4],
+    pub connected: [bool; 4],
+    pub hats: [u8; 4],
+    pub sheet_hats: [u8; 4],
+    pub converts: [bool; 4],
+    pub sheet_converts: [bool; 4],
+    pub renamed: [bool; 4],
+    pub codes: [u32; 208],
+    pub kinds: [u8; 208],
+    pub names: [u8; 208],
+    pub renames: [u8; 208],
+    pub elements: [Element; 209],
+    pub button_known: [bool; 208],
+    pub buttons: [ButtonData; 209],
+    pub axis_known: [bool; 208],
+    pub axes: [AxisData; 209],
+    pub flags: [bool; 24],
+    pub queue: [Slot; 64],
+    pub head: u8,
+    pub waiting: u8,
+}
+
+// ---- small values that a step gathers and decides on
+
+// An event handed on, and the events queued behind it, in order: the first `count` of `queued`.
+pub struct Gives {
+    pub event: Event,
+    pub count: u8,
+    pub queued: [Event; 3],
+}
+
+// What the filters see of the hub for one event.
+pub struct View {
+    pub converts: bool,
+    pub positive: bool,
+    pub negative: bool,
+    pub stored: bool,
+    pub stick: f32,
+    pub dead: bool,
+    pub threshold: f32,
+    pub own: f32,
+    pub paired: bool,
+    pub partner_code: u32,
+    pub partner: f32,
+    pub own_flag: bool,
+    pub partner_flag: bool,
+}
+
+// What the filters make of an event: the event or Dropped, the events to queue, and the two flags after.
+pub struct Filtered {
+    pub gives: Gives,
+    pub own_flag: bool,
+    pub partner_flag: bool,
+}
+
+// ---- answers
+
+// Of new, rename, update and insert_event.
+pub enum Answer {
+    Done,
+    Refused(u8),
+}
+
+pub struct Answered {
+    pub hub: Hub,
+    pub answer: Answer,
+}
+
+pub enum RegisterAnswer {
+    Pad(u8),
+    Refused(u8),
+}
+
+pub struct Registered {
+    pub hub: Hub,
+    pub answer: RegisterAnswer,
+}
+
+pub enum PumpAnswer {
+    Drained(usize, usize, usize),
+    Full(usize, usize, usize),
+    Paused(usize, usize, usize),
+    Refused(u8, usize, usize, usize),
+}
+
+pub struct Pumped {
+    pub hub: Hub,
+    pub answer: PumpAnswer,
+}
+
+pub enum RepeatAnswer {
+    Due(Event),
+    Quiet,
+    Refused(u8),
+}
+
+pub enum TruthAnswer {
+    Is(bool),
+    Refused(u8),
+}
+
+pub enum ValueAnswer {
+    Value(f32),
+    Absent,
+    Refused(u8),
+}
+
+pub enum ButtonAnswer {
+    Data(ButtonData),
+    Absent,
+    Refused(u8),
+}
+
+pub enum AxisAnswer {
+    Data(AxisData),
+    Absent,
+    Refused(u8),
+}
+
+pub enum NumberAnswer {
+    Number(u32),
+    Absent,
+    Refused(u8),
+}
