@@ -69,21 +69,10 @@ pub struct SheetElement {
     pub deadzone: u32,
 }
 
-pub struct Sheet {
-    pub hats: u8,
-    pub count: u8,
-    pub elements: [SheetElement; 48],
-}
-
-// What reading a sheet finds. The sheet stands beside the answer, since an enum holds no array.
-pub enum SheetAnswer {
-    Read,
+// What reading a sheet finds: its hats and how many elements it lists, or a refusal.
+pub enum SheetRead {
+    Sheet(u8, u8),
     Refused(u8),
-}
-
-pub struct SheetRead {
-    pub answer: SheetAnswer,
-    pub sheet: Sheet,
 }
 
 // What the hub keeps of an axis element: its lowest value and its range as binary32, whether the range is odd, and its deadzone threshold.
@@ -118,6 +107,8 @@ pub struct AxisData {
 }
 
 // The hub. A pad has 52 places in code order, pad p the places 52 p to 52 p + 51; place 208 is no pad's, and stands for a code that is not there.
+// `hats`, `converts` and `names` are the registered sheet's; where a pad is `renamed`, the columns `rehats`, `reconverts` and `renames` hold
+// instead. A place has a button record where it is `touched`, and an axis record where it is `moved`.
 pub struct Hub {
     pub pressed: f32,
     pub released: f32,
@@ -129,18 +120,18 @@ pub struct Hub {
     pub counts: [u8; 4],
     pub connected: [bool; 4],
     pub hats: [u8; 4],
-    pub sheet_hats: [u8; 4],
     pub converts: [bool; 4],
-    pub sheet_converts: [bool; 4],
     pub renamed: [bool; 4],
+    pub rehats: [u8; 4],
+    pub reconverts: [bool; 4],
     pub codes: [u32; 208],
     pub kinds: [u8; 208],
     pub names: [u8; 208],
     pub renames: [u8; 208],
     pub elements: [Element; 209],
-    pub button_known: [bool; 208],
+    pub touched: [bool; 208],
     pub buttons: [ButtonData; 209],
-    pub axis_known: [bool; 208],
+    pub moved: [bool; 208],
     pub axes: [AxisData; 209],
     pub flags: [bool; 24],
     pub queue: [Slot; 64],
@@ -154,10 +145,24 @@ pub struct Hub {
 pub struct Gives {
     pub event: Event,
     pub count: u8,
-    pub queued: [Event; 3],
+    pub queued: [Event; 4],
 }
 
-// What the filters see of the hub for one event.
+// The deadzone flags of an axis and of its partner: whether a value other than 0 was sent last.
+pub struct Flags {
+    pub own: bool,
+    pub partner: bool,
+}
+
+// The other axis of a pair: whether some element has its name, that element's code, and the value that the state has for it.
+pub struct Partner {
+    pub stands: bool,
+    pub code: u32,
+    pub value: f32,
+}
+
+// What the filters see of the hub for one event: whether the pad converts and the hat's two directions read pressed; the stored axis value; the
+// threshold, where there is one; the value that the state has for the code; the partner, and the flags.
 pub struct View {
     pub converts: bool,
     pub positive: bool,
@@ -167,18 +172,22 @@ pub struct View {
     pub dead: bool,
     pub threshold: f32,
     pub own: f32,
-    pub paired: bool,
-    pub partner_code: u32,
-    pub partner: f32,
-    pub own_flag: bool,
-    pub partner_flag: bool,
+    pub partner: Partner,
+    pub flags: Flags,
+}
+
+// What the deadzone makes of an event: the event or Dropped, whether the partner is cleared and by which event, and the two flags after.
+pub struct Zoned {
+    pub event: Event,
+    pub clears: bool,
+    pub clearing: Event,
+    pub flags: Flags,
 }
 
 // What the filters make of an event: the event or Dropped, the events to queue, and the two flags after.
 pub struct Filtered {
     pub gives: Gives,
-    pub own_flag: bool,
-    pub partner_flag: bool,
+    pub flags: Flags,
 }
 
 // ---- answers

@@ -1,0 +1,82 @@
+-- State: the records of a code after an event, 000's `GamepadState`, and what is read of them. Definitions only. Assumes nothing.
+use Prim.Native.Nat.{ℕ}
+use mathlib.Core.Bool.{Bool, true, false, cond, _&&_, _||_}
+use lib.Ieee.{Float, nan}
+use Rattle.numbers.specs.Constants.{zero32, one32}
+use Rattle.rules.specs.declared.Event.{Event}
+use Rattle.rules.specs.declared.EventType.{EventType}
+use Rattle.rules.specs.declared.EventType.the-variants.{Pressed, Released, Repeated, Changed, Axis, Connected, Disconnected, Dropped}
+use Rattle.rules.specs.declared.ButtonData.{ButtonData}
+use Rattle.rules.specs.declared.AxisData.{AxisData}
+
+-- ---- reads
+
+-- pressed by code reads the button record alone
+unfoldable pub readPressed : Bool → ButtonData → Bool
+readPressed known b = known && b .pressed
+
+-- "Reading a code looks at axes first"
+unfoldable pub readValue : Bool → AxisData → Bool → ButtonData → Float
+readValue axisKnown a buttonKnown b = cond axisKnown (a .value) (cond buttonKnown (b .value) zero32)
+
+-- ---- the button record: `set_btn_pressed`, `set_btn_repeating`, `set_btn_value`
+
+-- "Pressing a new button also sets value 1.0; a first Changed leaves it unpressed"
+abbrev pub buttonType : EventType → Bool → ButtonData → ℕ → ℕ → ButtonData
+buttonType (Pressed n c) known b time counter =
+    record { value = cond known (b .value) one32; stamp = time; counter = counter; pressed = true; repeating = false }
+buttonType (Released n c) known b time counter =
+    record { value = cond known (b .value) zero32; stamp = time; counter = counter; pressed = false; repeating = false }
+buttonType (Repeated n c) known b time counter =
+    record { value = cond known (b .value) one32; stamp = time; counter = counter; pressed = cond known (b .pressed) true; repeating = true }
+buttonType (Changed n c v) known b time counter =
+    record { value = v; stamp = time; counter = counter; pressed = known && b .pressed; repeating = known && b .repeating }
+buttonType (Axis n c v) known b time counter = b
+buttonType Connected known b time counter = b
+buttonType Disconnected known b time counter = b
+buttonType Dropped known b time counter = b
+
+unfoldable pub buttonAfter : Event → Bool → ButtonData → ℕ → ButtonData
+buttonAfter e known b counter = buttonType (e .event) known b (e .time) counter
+
+-- whether an event writes the button record of its code, or the axis record
+abbrev pub writesButtonType : EventType → Bool
+writesButtonType (Pressed n c) = true
+writesButtonType (Released n c) = true
+writesButtonType (Repeated n c) = true
+writesButtonType (Changed n c v) = true
+writesButtonType (Axis n c v) = false
+writesButtonType Connected = false
+writesButtonType Disconnected = false
+writesButtonType Dropped = false
+
+unfoldable pub writesButton : Event → Bool
+writesButton e = writesButtonType (e .event)
+
+-- ---- the axis record: `update_axis`
+
+abbrev pub axisType : EventType → AxisData → ℕ → ℕ → AxisData
+axisType (Axis n c v) a time counter = record { value = v; stamp = time; counter = counter }
+axisType (Pressed n c) a time counter = a
+axisType (Released n c) a time counter = a
+axisType (Repeated n c) a time counter = a
+axisType (Changed n c v) a time counter = a
+axisType Connected a time counter = a
+axisType Disconnected a time counter = a
+axisType Dropped a time counter = a
+
+unfoldable pub axisAfter : Event → AxisData → ℕ → AxisData
+axisAfter e a counter = axisType (e .event) a (e .time) counter
+
+abbrev pub writesAxisType : EventType → Bool
+writesAxisType (Axis n c v) = true
+writesAxisType (Pressed n c) = false
+writesAxisType (Released n c) = false
+writesAxisType (Repeated n c) = false
+writesAxisType (Changed n c v) = false
+writesAxisType Connected = false
+writesAxisType Disconnected = false
+writesAxisType Dropped = false
+
+unfoldable pub writesAxis : Event → Bool
+writesAxis e = writesAxisType (e .event)
