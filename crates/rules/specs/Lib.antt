@@ -6,3 +6,4 @@ pub mod Events
 pub mod Dispatch
 pub mod State
 pub mod Filters
+pub mod Refusals

@@ -141,6 +141,13 @@ pub struct Hub {
 
 // ---- small values that a step gathers and decides on
 
+// What a raw record gives: an event, and where `follows` says so one more that is queued.
+pub struct Dispatched {
+    pub event: Event,
+    pub follows: bool,
+    pub next: Event,
+}
+
 // An event handed on, and the events queued behind it, in order: the first `count` of `queued`.
 pub struct Gives {
     pub event: Event,
