@@ -14,3 +14,4 @@ pub mod Repeat
 pub mod Calls
 pub mod Queries
 pub mod Answers
+pub mod Example
