@@ -1,5 +1,5 @@
 ghost use mathlib.Core.Path.{_≡_};
-ghost use Prim.Native.Nat.{ℕ, _+_, _-_, _*_, _/_, _%_, _≤_, _<_, _^_};
+ghost use Prim.Native.Nat.{_+_, _-_, _*_, _/_, _%_, _≤_, _<_, _^_};
 ghost use Rattle.numbers.specs.Clamp.{clampOf};
 ghost use Rattle.numbers.specs.Root.{near, rootUnits, sqrtOf, magnitudeOf};
 ghost use Rattle.binary32.specs.WholeRoot.{Floor};
