@@ -126,3 +126,9 @@ unfolding directionNamed namedOf
 convertsOf hats codes names p =
     eqb hats lastHats
     || (eqb hats 0 && (not (directionNamed codes names p) && eqb (namedOf names p dpadRight) nowhere))
+
+-- ---- marks taken off: n of them from the i-th on
+
+unfoldable pub clearedOf : List Bool → ℕ → ℕ → List Bool
+clearedOf marks i zero = marks
+clearedOf marks i (suc n) = clearedOf (set marks i false) (i + 1) n
