@@ -5,3 +5,4 @@ pub mod Scale
 pub mod Deadzone
 pub mod Jitter
 pub mod Examples
+pub mod RootTable
