@@ -10,8 +10,25 @@ use reading::{names, MOST_PADS};
 
 /// The words of the mapping lines, by 01's number for buttons (from 1) and for axes (from 33).
 const BUTTON_WORDS: [&str; 19] = [
-    "a", "b", "y", "x", "c", "z", "leftshoulder", "lefttrigger", "rightshoulder", "righttrigger", "back", "start",
-    "guide", "leftstick", "rightstick", "dpup", "dpdown", "dpleft", "dpright",
+    "a",
+    "b",
+    "y",
+    "x",
+    "c",
+    "z",
+    "leftshoulder",
+    "lefttrigger",
+    "rightshoulder",
+    "righttrigger",
+    "back",
+    "start",
+    "guide",
+    "leftstick",
+    "rightstick",
+    "dpup",
+    "dpdown",
+    "dpleft",
+    "dpright",
 ];
 const AXIS_WORDS: [&str; 8] = ["leftx", "lefty", "leftz", "rightx", "righty", "rightz", "dpadx", "dpady"];
 
@@ -47,10 +64,7 @@ impl Plan {
 
     /// Keeps a list that names 39 or 40; a list for a pad that is registered later is refused when its turn comes.
     fn add_rename(&mut self, pad: u8, list: &[u8]) {
-        let stands = self
-            .pads
-            .get(usize::from(pad))
-            .map_or(false, |sheet| sheet::judge_rename(list, sheet).is_ok());
+        let stands = self.pads.get(usize::from(pad)).map_or(false, |sheet| sheet::judge_rename(list, sheet).is_ok());
         if stands && beyond_set_mapping(list) {
             self.renames.push((pad, list.to_vec()));
         }

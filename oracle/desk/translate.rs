@@ -3,7 +3,7 @@
 
 use gilrs::ev::AxisOrBtn;
 use gilrs::{window, Axis, Button, EventType};
-use gilrs_core::{Event as RawEvent, EventType as RawEventType, EvCode};
+use gilrs_core::{EvCode, Event as RawEvent, EventType as RawEventType};
 use reading::event::{self, Event};
 use reading::names;
 use reading::record::{self, Record};
@@ -119,12 +119,5 @@ pub fn from_crate(given: &gilrs::Event) -> Event {
         EventType::Dropped => (event::DROPPED, names::NO_NAME, 0, 0.0),
         _ => panic!("an event that 01 does not have: {:?}", given),
     };
-    Event {
-        kind,
-        pad: usize::from(given.id) as u8,
-        name,
-        code,
-        bits: value.to_bits(),
-        time: microseconds(given.time),
-    }
+    Event { kind, pad: usize::from(given.id) as u8, name, code, bits: value.to_bits(), time: microseconds(given.time) }
 }

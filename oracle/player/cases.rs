@@ -1,6 +1,6 @@
 //! Answers the list of byte-form cases that `reader.py` writes, by the player's own reading. Each case is a kind (1
-//! sheet, 2 record, 3 event for `update`, 4 event for insert), a payload length of 4 bytes, and the payload: for 2 to 4
-//! the number of pads, each pad's sheet behind its length of 2 bytes, for 4 the number of waiting events, and the bytes.
+//! sheet, 2 record, 3 event for `update`, 4 event for insert), a payload length of 4 bytes, and the payload: for 2 to
+//! 4 the number of pads, each pad's sheet behind its length of 2 bytes, for 4 the number of waiting events, the bytes.
 
 use reading::bytes::field;
 use reading::event::Event;

@@ -25,7 +25,9 @@ fn main() {
         ["generate", seed, count] => generate(number(seed), number(count)),
         ["example"] => io::stdout().write_all(&worked::example()),
         ["worked"] => io::stdout().write_all(&worked::worked()),
-        ["cases", file] => std::fs::read(file).and_then(|bytes| io::stdout().write_all(cases::answers(&bytes).as_bytes())),
+        ["cases", file] => {
+            std::fs::read(file).and_then(|bytes| io::stdout().write_all(cases::answers(&bytes).as_bytes()))
+        }
         _ => {
             eprintln!("oracle play [--crate-loop] FILE | generate SEED COUNT | example | worked | cases FILE");
             exit(2)

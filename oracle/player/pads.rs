@@ -2,13 +2,28 @@
 
 use crate::random::Random;
 use reading::names::{self, DIRECTIONS};
-use reading::sheet::{Element, Sheet, ABSENT, AXIS, BUTTON, LARGEST_DEADZONE, LARGEST_VALUE, LEAST_VALUE, MOST_ELEMENTS};
+use reading::sheet::{
+    Element, Sheet, ABSENT, AXIS, BUTTON, LARGEST_DEADZONE, LARGEST_VALUE, LEAST_VALUE, MOST_ELEMENTS,
+};
 use std::collections::BTreeSet;
 
 /// `to_nec`'s codes for the names 1 to 15.
 pub const USUAL_CODES: [u32; 15] = [
-    0x0001_0130, 0x0001_0131, 0x0001_0133, 0x0001_0134, 0x0001_0132, 0x0001_0135, 0x0001_0136, 0x0001_0138,
-    0x0001_0137, 0x0001_0139, 0x0001_013a, 0x0001_013b, 0x0001_013c, 0x0001_013d, 0x0001_013e,
+    0x0001_0130,
+    0x0001_0131,
+    0x0001_0133,
+    0x0001_0134,
+    0x0001_0132,
+    0x0001_0135,
+    0x0001_0136,
+    0x0001_0138,
+    0x0001_0137,
+    0x0001_0139,
+    0x0001_013a,
+    0x0001_013b,
+    0x0001_013c,
+    0x0001_013d,
+    0x0001_013e,
 ];
 
 const HAT_X: u32 = 0x0003_0010;
@@ -66,9 +81,9 @@ fn usual(random: &mut Random) -> Sheet {
 /// Anything that 01 lets stand, with a taste for what it lets stand and the shops do not sell.
 fn nasty(random: &mut Random) -> Sheet {
     let size = match random.below(10) {
-        0 => 0,
+        0 => random.among(&[0, 1]),
         1 => MOST_ELEMENTS,
-        _ => random.between(1, 14) as usize,
+        _ => random.between(2, 14) as usize,
     };
     let mut codes = BTreeSet::new();
     while codes.len() < size {

@@ -27,18 +27,12 @@ struct Scene<'a> {
 pub fn scene(random: &mut Random) -> Vec<u8> {
     let traffic = Traffic::new(random);
     let (sheets, renames) = preparation(random);
-    let mut scene = Scene {
-        random,
-        desk: None,
-        bytes: Vec::new(),
-        traffic,
-        sheets,
-        renames,
-        batch: Vec::new(),
-        place: 0,
-    };
+    let mut scene =
+        Scene { random, desk: None, bytes: Vec::new(), traffic, sheets, renames, batch: Vec::new(), place: 0 };
     scene.open();
-    let calls = scene.random.between(4, 30);
+    // without a hub every answer is the same
+    let most = if scene.desk.is_some() { 30 } else { 5 };
+    let calls = scene.random.between(4, most);
     for _ in 0..calls {
         scene.call();
     }
@@ -105,8 +99,8 @@ impl Scene<'_> {
         self.desk = play::open(settings, &operations, false);
         self.bytes = scenario::write(scenario::NEW, &payload);
         self.sheets.reverse();
-        // most pads stand from the start, some are registered in the middle
-        while !self.sheets.is_empty() && self.random.chance(92) {
+        // most pads stand from the start, some are registered in the middle; rarely none stands at first
+        while !self.sheets.is_empty() && self.random.chance(if self.traffic.pads.is_empty() { 98 } else { 90 }) {
             self.register();
         }
     }
@@ -177,11 +171,11 @@ impl Scene<'_> {
     }
 
     fn fresh_batch(&mut self) -> Vec<u8> {
-        let records = match self.random.below(200) {
+        let records = match self.random.below(600) {
             0 => 780,
             1 => 781,
-            2..=20 => 0,
-            21..=120 => self.random.between(1, 6),
+            2..=60 => 0,
+            61..=360 => self.random.between(1, 6),
             _ => self.random.between(5, 30),
         };
         let mut batch = Vec::new();

@@ -173,10 +173,13 @@ fn value_bits(random: &mut Random) -> u32 {
 
 fn damaged_record(random: &mut Random, good: Record, pads: u8) -> Vec<u8> {
     let mut bad = good;
-    match random.below(9) {
+    match random.below(10) {
         0 => bad.pad = random.among(&[pads, 4, 255]),
         1 => bad.code = good.code.wrapping_add(random.among(&[1, 0x0001_0000])),
         2 => bad.kind = random.among(&[0, 1, 2, 3, 4, 5, 6, 255]),
+        // of the other sort of element
+        6 if good.kind == record::AXIS_MOVED => bad = Record { kind: record::PRESSED, value: 0, ..good },
+        6 if good.code != 0 => bad.kind = record::AXIS_MOVED,
         3 => bad.value = random.among(&[LARGEST_VALUE + 1, LEAST_VALUE - 1, i32::MIN, i32::MAX, 1]),
         4 => bad.time = random.among(&[LAST_TIME + 1, u64::MAX]),
         5 => bad.code = random.among(&DIRECTIONS),

@@ -2,9 +2,7 @@
 
 /// The unsigned number in the `width` bytes from `at` on.
 pub fn field(bytes: &[u8], at: usize, width: usize) -> u64 {
-    bytes[at..at + width]
-        .iter()
-        .fold(0, |number, byte| number << 8 | u64::from(*byte))
+    bytes[at..at + width].iter().fold(0, |number, byte| number << 8 | u64::from(*byte))
 }
 
 pub fn field32(bytes: &[u8], at: usize) -> u32 {

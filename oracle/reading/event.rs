@@ -15,9 +15,8 @@ pub const DISCONNECTED: u8 = 7;
 pub const DROPPED: u8 = 8;
 
 /// The words by kind; no event has kind 0.
-pub const WORDS: [&str; 9] = [
-    "", "PRESSED", "RELEASED", "REPEATED", "CHANGED", "AXIS", "CONNECTED", "DISCONNECTED", "DROPPED",
-];
+pub const WORDS: [&str; 9] =
+    ["", "PRESSED", "RELEASED", "REPEATED", "CHANGED", "AXIS", "CONNECTED", "DISCONNECTED", "DROPPED"];
 
 #[derive(Clone, Copy, Debug, Eq, PartialEq)]
 pub struct Event {

@@ -62,7 +62,11 @@ pub enum Operation<'a> {
     Pump(Pump<'a>),
     Update(&'a [u8]),
     Insert(&'a [u8]),
-    Repeat { after: u64, every: u64, now: u64 },
+    Repeat {
+        after: u64,
+        every: u64,
+        now: u64,
+    },
     Inc,
     Counter,
     ResetCounter,
@@ -107,11 +111,9 @@ fn read_one(opcode: u8, payload: &[u8]) -> Option<Operation<'_>> {
         }),
         (UPDATE, _) => Operation::Update(payload),
         (INSERT, _) => Operation::Insert(payload),
-        (REPEAT, 24) => Operation::Repeat {
-            after: field(payload, 0, 8),
-            every: field(payload, 8, 8),
-            now: field(payload, 16, 8),
-        },
+        (REPEAT, 24) => {
+            Operation::Repeat { after: field(payload, 0, 8), every: field(payload, 8, 8), now: field(payload, 16, 8) }
+        }
         (INC, 0) => Operation::Inc,
         (COUNTER, 0) => Operation::Counter,
         (RESET_COUNTER, 0) => Operation::ResetCounter,

@@ -67,11 +67,7 @@ fn mapping(part: &str) -> Option<Token<'_>> {
     let to = named(word)?;
     if let Some(hat) = from.strip_prefix('h') {
         let (hat, direction) = hat.split_once('.')?;
-        return Some(Token::HatMapping {
-            hat: hat.parse().ok()?,
-            direction: direction.parse().ok()?,
-            to,
-        });
+        return Some(Token::HatMapping { hat: hat.parse().ok()?, direction: direction.parse().ok()?, to });
     }
     if let Some(button) = from.strip_prefix('b') {
         return Some(Token::ButtonMapping { from: button.parse().ok()?, to });

@@ -18,9 +18,7 @@ impl Uuid {
         if text.len() != 32 {
             return Err(Error);
         }
-        u128::from_str_radix(text, 16)
-            .map(|number| Uuid(number.to_be_bytes()))
-            .map_err(|_| Error)
+        u128::from_str_radix(text, 16).map(|number| Uuid(number.to_be_bytes())).map_err(|_| Error)
     }
 
     pub fn as_simple(&self) -> &Self {
