@@ -4,8 +4,8 @@ use rules::EventForm;
 use rules::EventType;
 use rules::Slot;
 ghost use mathlib.Core.Path.{_≡_};
-ghost use lib.Ieee.{binary32, ofBits};
-ghost use Rattle.rules.specs.Events.{kindType, nameType, codeType, valueType, droppedType, kindOf, nameOf, codeOf, valueOf, typeOf, slotOf, eventOf, formEvent, isDropped};
+ghost use lib.Ieee.{binary32, ofBits, toBits};
+ghost use Rattle.rules.specs.Events.{kindType, nameType, codeType, valueType, droppedType, kindOf, nameOf, codeOf, valueOf, typeOf, slotOf, eventOf, formOf, formEvent, isDropped};
 ghost use Rattle.rules.specs.Filters.{keptOf};
 
 // ---- what an event holds, by its cases
@@ -204,5 +204,29 @@ pub fn form_event(f: EventForm) -> Event
         pad: f.pad,
         time: f.time,
         event: t,
+    }
+}
+
+// The bits of any value; NaN has the bits that IEEE 754 prefers.
+pub fn bits_of_value(x: f32) -> u32
+    ensures { λ r. ⌜ r ≡ toBits binary32 x ⌝ }
+{
+    if x != x {
+        return 0x7fc0_0000;
+    }
+    f32::to_bits(x)
+}
+
+// An event as its bytes will have it.
+pub fn form_of(e: Event) -> EventForm
+    ensures { λ r. ⌜ r ≡ formOf e ⌝ }
+{
+    EventForm {
+        kind: kind_of(e),
+        pad: e.pad,
+        name: name_of(e),
+        code: code_of(e),
+        bits: bits_of_value(value_of(e)),
+        time: e.time,
     }
 }
