@@ -1,4 +1,9 @@
 // The byte forms of document 01, "ours, big-endian": fields of every width, raw records and events read, and events written.
+use events::EVENT_AXIS;
+use events::EVENT_CHANGED;
+use events::EVENT_DROPPED;
+use events::EVENT_PRESSED;
+use names::NO_NAME;
 use rules::Event;
 use rules::EventForm;
 use rules::EventRead;
@@ -11,6 +16,28 @@ ghost use lib.ListN.{length, drop};
 ghost use Rattle.rules.specs.Forms.{fieldOf, signedOf, opens, recordKindFits, recordFields, readRecord, nameFits, eventKindFits, eventFields, readEvent, formBytes};
 ghost use Rattle.rules.specs.Events.{eventBytes};
 ghost use Rattle.rules.specs.Refusals.{valueFits, timeFits};
+
+// ---- sizes, kinds and limits
+
+const VERSION: u8 = 1;
+
+pub const RECORD_SIZE: usize = 21;
+
+pub const EVENT_SIZE: usize = 22;
+// of raw records: 1 pressed, 2 released, 3 axis, 4 connected, 5 disconnected
+const KIND_PRESSED: u8 = 1;
+
+const KIND_AXIS: u8 = 3;
+
+const KIND_CONNECTED: u8 = 4;
+
+const KIND_DISCONNECTED: u8 = 5;
+// the bits of 1.0, and those of the sign
+const ONE: u32 = 0x3f80_0000;
+
+const SIGN: u32 = 0x8000_0000;
+// 2^62 - 1 microseconds
+const LAST_TIME: u64 = 0x3fff_ffff_ffff_ffff;
 
 // ---- fields
 
@@ -80,7 +107,7 @@ pub fn opens_as(s: &[u8], at: usize, size: usize) -> bool
 {
     let count = read2(s, at) as usize;
     if count + 2 == size {
-        return s[at + 2] == 1;
+        return s[at + 2] == VERSION;
     }
     false
 }
@@ -91,19 +118,19 @@ pub fn opens_as(s: &[u8], at: usize, size: usize) -> bool
 fn record_kind_fits(kind: u8, code: u32, value: u32) -> bool
     ensures { λ r. ⌜ r ≡ recordKindFits kind code value ⌝ }
 {
-    if kind < 1 {
+    if kind < KIND_PRESSED {
         return false;
     }
-    if 5 < kind {
+    if KIND_DISCONNECTED < kind {
         return false;
     }
-    if kind == 3 {
+    if kind == KIND_AXIS {
         return true;
     }
     if value != 0 {
         return false;
     }
-    if kind < 4 {
+    if kind < KIND_CONNECTED {
         return true;
     }
     code == 0
@@ -116,10 +143,10 @@ pub fn read_record(s: &[u8], at: usize) -> RecordRead
     if s.len() < at {
         return RecordRead::Malformed;
     }
-    if s.len() - at < 21 {
+    if s.len() - at < RECORD_SIZE {
         return RecordRead::Malformed;
     }
-    if !opens_as(s, at, 21) {
+    if !opens_as(s, at, RECORD_SIZE) {
         return RecordRead::Malformed;
     }
     let kind = s[at + 3];
@@ -144,16 +171,13 @@ pub fn read_record(s: &[u8], at: usize) -> RecordRead
 fn name_fits(kind: u8, name: u8, code: u32) -> bool
     ensures { λ r. ⌜ r ≡ nameFits kind name code ⌝ }
 {
-    if kind <= 4 {
-        return name <= 19;
+    if kind <= EVENT_CHANGED {
+        return names::is_button(name);
     }
-    if kind == 5 {
-        if name < 32 {
-            return false;
-        }
-        return name <= 40;
+    if kind == EVENT_AXIS {
+        return names::is_axis(name);
     }
-    if name != 255 {
+    if name != NO_NAME {
         return false;
     }
     code == 0
@@ -163,19 +187,19 @@ fn name_fits(kind: u8, name: u8, code: u32) -> bool
 fn event_kind_fits(kind: u8, name: u8, code: u32, bits: u32) -> bool
     ensures { λ r. ⌜ r ≡ eventKindFits kind name code bits ⌝ }
 {
-    if kind < 1 {
+    if kind < EVENT_PRESSED {
         return false;
     }
-    if 8 < kind {
+    if EVENT_DROPPED < kind {
         return false;
     }
     if !name_fits(kind, name, code) {
         return false;
     }
-    if kind == 4 {
+    if kind == EVENT_CHANGED {
         return true;
     }
-    if kind == 5 {
+    if kind == EVENT_AXIS {
         return true;
     }
     bits == 0
@@ -184,10 +208,10 @@ fn event_kind_fits(kind: u8, name: u8, code: u32, bits: u32) -> bool
 pub fn read_event(s: &[u8]) -> EventRead
     ensures { λ r. ⌜ r ≡ readEvent (now (s .entry)) ⌝ }
 {
-    if s.len() != 22 {
+    if s.len() != EVENT_SIZE {
         return EventRead::Malformed;
     }
-    if !opens_as(s, 0, 22) {
+    if !opens_as(s, 0, EVENT_SIZE) {
         return EventRead::Malformed;
     }
     let kind = s[3];
@@ -214,11 +238,11 @@ pub fn read_event(s: &[u8]) -> EventRead
 pub fn value_fits(bits: u32) -> bool
     ensures { λ r. ⌜ r ≡ valueFits bits ⌝ }
 {
-    bits % 0x8000_0000 <= 0x3f80_0000
+    bits % SIGN <= ONE
 }
 
 pub fn time_fits(time: u64) -> bool
     ensures { λ r. ⌜ r ≡ timeFits time ⌝ }
 {
-    time <= 0x3fff_ffff_ffff_ffff
+    time <= LAST_TIME
 }

@@ -19,7 +19,7 @@ no-nan (inf s) h = tt
 no-nan (fin s m e) h = tt
 
 returns : tie.Need-returns
-returns c = 
+returns c =
     subst (λ (x : Float). 0x7fc00000 ≡ toBits binary32 x) (sym (differs-from-itself _ (subst T (sym (c .if1 .taken)) tt))) nan-bits
 
 float-to-bits-result : tie.Need-float-to-bits-result

@@ -21,13 +21,14 @@ bits-of-value-requires c κs = search needs
 
 returns : tie.Need-returns
 unfolding formOf
-returns c = 
-    rw
-    (c .before .before .before .before .kind-of .ensures,
-    c .before .before .before .name-of .ensures,
-    c .before .before .code-of .ensures,
-    c .bits-of-value .ensures,
-    c .before .value-of .ensures)
+returns c =
+    rw (
+      c .before .before .before .before .kind-of .ensures,
+      c .before .before .before .name-of .ensures,
+      c .before .before .code-of .ensures,
+      c .bits-of-value .ensures,
+      c .before .value-of .ensures,
+    )
 
 pub form-of-spec : {M : Type 1} → statement M
 form-of-spec =
