@@ -7,6 +7,7 @@ use names::NO_NAME;
 use rules::Event;
 use rules::EventForm;
 use rules::EventRead;
+use rules::Looked;
 use rules::RawRecord;
 use rules::RecordRead;
 ghost use mathlib.Core.Path.{_≡_};
@@ -15,6 +16,7 @@ ghost use Prim.Native.Nat.{_+_, _≤_, _<_, _^_};
 ghost use lib.ListN.{length, drop};
 ghost use Rattle.rules.specs.Forms.{fieldOf, signedOf, opens, recordKindFits, recordFields, readRecord, nameFits, eventKindFits, eventFields, readEvent};
 ghost use Rattle.rules.specs.Events.{eventBytes};
+ghost use Rattle.rules.specs.Step.{lookedOf};
 ghost use Rattle.wire.specs.Bytes.{writtenOf};
 ghost use Rattle.rules.specs.Refusals.{valueFits, timeFits};
 
@@ -295,5 +297,34 @@ pub fn write_event(out: &mut [u8], e: Event)
     while i < EVENT_SIZE {
         out[i] = bytes[i];
         i += 1;
+    }
+}
+
+// ---- the record that a step looks at
+
+// Where events wait a step takes the queue's front and looks at no record; a malformed record is shown as a blank one that does not fit.
+pub fn look(s: &[u8], at: usize, waiting: u8) -> Looked
+    ensures { λ r. ⌜ r ≡ lookedOf waiting (now (s .entry)) at ⌝ }
+{
+    let blank = RawRecord {
+        kind: 0,
+        pad: 0,
+        code: 0,
+        value: 0,
+        time: 0,
+    };
+    if 0 < waiting {
+        return Looked {
+            raw: blank,
+            fits: true,
+        };
+    }
+    let read = read_record(s, at);
+    match read {
+        RecordRead::Record(raw) => Looked { raw, fits: true },
+        RecordRead::Malformed => Looked {
+            raw: blank,
+            fits: false,
+        },
     }
 }
