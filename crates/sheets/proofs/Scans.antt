@@ -4,13 +4,12 @@
 use mathlib.Core.Path.{_≡_, refl, sym, _∙_, ap}
 use mathlib.Core.Bool.{Bool, true, false, not, _&&_, _||_}
 use mathlib.Core.List.{List}
-use Prim.Native.Nat.{ℕ, zero, suc, _+_, _-_, _*_, _≤_, _<_}
+use Prim.Native.Nat.{ℕ, suc, _+_, _-_, _*_, _≤_, _<_}
 use native.Mathlib.Omega.{arith}
 use lib.ListN.{getD}
 use lib.Dec.{eqb}
 use Rattle.rules.specs.Names.{nameAllowed}
 use Rattle.rules.specs.Sheets.{elementOf, elementFits, rises, elementsFit, nameAt, standsIn, standsTwice, namesFit}
-use Rattle.sheets.specs.Spread.{standsAgain}
 
 module _ (P f : ℕ → ℕ → Bool) (none : (i : ℕ) → P 0 i ≡ true) (more : (n i : ℕ) → P (suc n) i ≡ f n i && P n (i + 1)) (count i : ℕ) where
   left : i < count → P (count - i) i ≡ f (count - (i + 1)) i && P (count - (i + 1)) (i + 1)

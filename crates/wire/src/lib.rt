@@ -14,7 +14,7 @@ ghost use mathlib.Core.Path.{_≡_};
 ghost use mathlib.Core.List.{_++_};
 ghost use Prim.Native.Nat.{_+_, _≤_, _<_, _^_};
 ghost use lib.ListN.{length, drop};
-ghost use Rattle.rules.specs.Forms.{fieldOf, signedOf, opens, recordKindFits, recordFields, readRecord, nameFits, eventKindFits, eventFields, readEvent};
+ghost use Rattle.rules.specs.Forms.{fieldOf, signedOf, opens, recordKindFits, readRecord, nameFits, eventKindFits, readEvent};
 ghost use Rattle.rules.specs.Events.{eventBytes};
 ghost use Rattle.rules.specs.Step.{lookedOf};
 ghost use Rattle.wire.specs.Bytes.{writtenOf};

@@ -1,9 +1,8 @@
 -- `sheets::elements_fit` meets its contract. The invariant: what is left of the scan is the whole of it. Assumes nothing.
 use mathlib.Core.Path.{_≡_, sym, _∙_, ap}
-use Prim.Native.Nat.{ℕ, _≤_, _<_, _-_, _+_}
+use Prim.Native.Nat.{ℕ, _≤_, _<_, _-_}
 use native.Mathlib.Omega.{arith}
 use borrow.Author.Needs.{needs}
-use mathlib.Core.Bool.{false}
 use borrow.Author.Tests.{not-true, not-false}
 use Rattle.rules.specs.Sheets.{elementFits, elementsFit}
 use Rattle.sheets.proofs.Scans.{elementTest, elements-none, elements-more, all-more, all-stop, all-end}

@@ -1,8 +1,8 @@
 -- `sheets::read_sheet` meets its contract: a sheet that is not refused has its opening. Assumes nothing.
 use borrow.Author.Needs.{needs}
-use mathlib.Core.Path.{_≡_, sym, _∙_}
+use mathlib.Core.Path.{sym, _∙_}
 use native.Mathlib.Omega.{arith}
-use borrow.Author.Tests.{eq-eqb, ne-eqb}
+use borrow.Author.Tests.{ne-eqb}
 use Rattle.rules.specs.Sheets.{hatsOf, countOf, readSheet}
 use Rattle.sheets.specs.Laws.{good}
 use Rattle.sheets.proofs.read_sheet.Statement.{statement}

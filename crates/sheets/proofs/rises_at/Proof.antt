@@ -1,6 +1,5 @@
 -- `sheets::rises_at` meets its contract: the two codes are those of the elements read. Assumes nothing.
 use borrow.Author.Needs.{needs}
-use mathlib.Core.Path.{_≡_}
 use borrow.Author.Tests.{ne-eqb}
 use Rattle.rules.specs.Sheets.{rises}
 use Rattle.sheets.proofs.rises_at.Statement.{statement}
