@@ -1,12 +1,31 @@
 // Events as values: what an event holds by its cases, how it waits in the queue and comes back, and the event of a form's 22 bytes.
+use names::NO_NAME;
 use rules::Event;
 use rules::EventForm;
 use rules::EventType;
 use rules::Slot;
 ghost use mathlib.Core.Path.{_≡_};
-ghost use lib.Ieee.{binary32, ofBits};
-ghost use Rattle.rules.specs.Events.{kindType, nameType, codeType, valueType, droppedType, kindOf, nameOf, codeOf, valueOf, typeOf, slotOf, eventOf, formEvent, isDropped};
+ghost use lib.Ieee.{binary32, ofBits, toBits};
+ghost use Rattle.rules.specs.Events.{kindType, nameType, codeType, valueType, droppedType, kindOf, nameOf, codeOf, valueOf, typeOf, slotOf, eventOf, formOf, formEvent, isDropped};
 ghost use Rattle.rules.specs.Filters.{keptOf};
+
+// ---- "kind (1 pressed, 2 released, 3 repeated, 4 changed, 5 axis, 6 connected, 7 disconnected, 8 dropped)"
+
+pub const EVENT_PRESSED: u8 = 1;
+
+pub const EVENT_RELEASED: u8 = 2;
+
+pub const EVENT_REPEATED: u8 = 3;
+
+pub const EVENT_CHANGED: u8 = 4;
+
+pub const EVENT_AXIS: u8 = 5;
+
+pub const EVENT_CONNECTED: u8 = 6;
+
+pub const EVENT_DISCONNECTED: u8 = 7;
+
+pub const EVENT_DROPPED: u8 = 8;
 
 // ---- what an event holds, by its cases
 
@@ -14,14 +33,14 @@ fn kind_type(t: EventType) -> u8
     ensures { λ r. ⌜ r ≡ kindType t ⌝ }
 {
     match t {
-        EventType::Pressed(_, _) => 1,
-        EventType::Released(_, _) => 2,
-        EventType::Repeated(_, _) => 3,
-        EventType::Changed(_, _, _) => 4,
-        EventType::Axis(_, _, _) => 5,
-        EventType::Connected => 6,
-        EventType::Disconnected => 7,
-        EventType::Dropped => 8,
+        EventType::Pressed(_, _) => EVENT_PRESSED,
+        EventType::Released(_, _) => EVENT_RELEASED,
+        EventType::Repeated(_, _) => EVENT_REPEATED,
+        EventType::Changed(_, _, _) => EVENT_CHANGED,
+        EventType::Axis(_, _, _) => EVENT_AXIS,
+        EventType::Connected => EVENT_CONNECTED,
+        EventType::Disconnected => EVENT_DISCONNECTED,
+        EventType::Dropped => EVENT_DROPPED,
     }
 }
 
@@ -34,9 +53,9 @@ fn name_type(t: EventType) -> u8
         EventType::Repeated(n, _) => n,
         EventType::Changed(n, _, _) => n,
         EventType::Axis(n, _, _) => n,
-        EventType::Connected => 255,
-        EventType::Disconnected => 255,
-        EventType::Dropped => 255,
+        EventType::Connected => NO_NAME,
+        EventType::Disconnected => NO_NAME,
+        EventType::Dropped => NO_NAME,
     }
 }
 
@@ -134,25 +153,25 @@ pub fn kept(on: bool, e: Event) -> bool
 pub fn type_of(kind: u8, name: u8, code: u32, value: f32) -> EventType
     ensures { λ r. ⌜ r ≡ typeOf kind name code value ⌝ }
 {
-    if kind == 1 {
+    if kind == EVENT_PRESSED {
         return EventType::Pressed(name, code);
     }
-    if kind == 2 {
+    if kind == EVENT_RELEASED {
         return EventType::Released(name, code);
     }
-    if kind == 3 {
+    if kind == EVENT_REPEATED {
         return EventType::Repeated(name, code);
     }
-    if kind == 4 {
+    if kind == EVENT_CHANGED {
         return EventType::Changed(name, code, value);
     }
-    if kind == 5 {
+    if kind == EVENT_AXIS {
         return EventType::Axis(name, code, value);
     }
-    if kind == 6 {
+    if kind == EVENT_CONNECTED {
         return EventType::Connected;
     }
-    if kind == 7 {
+    if kind == EVENT_DISCONNECTED {
         return EventType::Disconnected;
     }
     EventType::Dropped
@@ -184,11 +203,20 @@ pub fn event_of(s: Slot) -> Event
     }
 }
 
+// ---- the value as bits
+
+// the bits of infinity, above which all are a NaN's, and those of the sign
+const INFINITY: u32 = 0x7f80_0000;
+
+const SIGN: u32 = 0x8000_0000;
+// the NaN that IEEE 754 prefers
+const NAN: u32 = 0x7fc0_0000;
+
 // The value of any 32 bits; every NaN's bits give the one NaN, as IEEE 754 leaves its payload open.
 pub fn value_of_bits(bits: u32) -> f32
     ensures { λ r. ⌜ r ≡ ofBits binary32 bits ⌝ }
 {
-    if 0x7f80_0000 < bits % 0x8000_0000 {
+    if INFINITY < bits % SIGN {
         return 0.0 / 0.0;
     }
     f32::from_bits(bits)
@@ -204,5 +232,29 @@ pub fn form_event(f: EventForm) -> Event
         pad: f.pad,
         time: f.time,
         event: t,
+    }
+}
+
+// The bits of any value; NaN has the bits that IEEE 754 prefers.
+pub fn bits_of_value(x: f32) -> u32
+    ensures { λ r. ⌜ r ≡ toBits binary32 x ⌝ }
+{
+    if x != x {
+        return NAN;
+    }
+    f32::to_bits(x)
+}
+
+// An event as its bytes will have it.
+pub fn form_of(e: Event) -> EventForm
+    ensures { λ r. ⌜ r ≡ formOf e ⌝ }
+{
+    EventForm {
+        kind: kind_of(e),
+        pad: e.pad,
+        name: name_of(e),
+        code: code_of(e),
+        bits: bits_of_value(value_of(e)),
+        time: e.time,
     }
 }
