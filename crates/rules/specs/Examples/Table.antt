@@ -1,0 +1,23 @@
+-- How the examples are written: a case is what a definition finds and what document 01 owes, and a table is right where the two columns are equal.
+-- Assumes nothing.
+use mathlib.Core.Path.{_≡_}
+use mathlib.Core.List.{List, [], _∷_, map}
+
+pub record Case (A : Type 0) : Type 0 where
+  pub found : A
+  pub owed : A
+
+infix 70 _is_
+abbrev pub _is_ : {A : Type 0} → A → A → Case A
+_is_ found owed = record { found = found; owed = owed }
+
+abbrev pub founds : {A : Type 0} → List (Case A) → List A
+founds [] = []
+founds (c ∷ cs) = c .found ∷ founds cs
+
+abbrev pub oweds : {A : Type 0} → List (Case A) → List A
+oweds [] = []
+oweds (c ∷ cs) = c .owed ∷ oweds cs
+
+abbrev pub Right : {A : Type 0} → List (Case A) → Type 0
+Right cs = founds cs ≡ oweds cs
