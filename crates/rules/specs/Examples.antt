@@ -3,3 +3,4 @@
 mod Table
 mod Names
 mod Forms
+mod Sheets

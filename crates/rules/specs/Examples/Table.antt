@@ -1,7 +1,11 @@
 -- How the examples are written: a case is what a definition finds and what document 01 owes, and a table is right where the two columns are equal.
 -- Assumes nothing.
 use mathlib.Core.Path.{_≡_}
-use mathlib.Core.List.{List, [], _∷_, map}
+use mathlib.Core.List.{List, [], _∷_}
+use Prim.Native.Nat.{ℕ}
+use lib.IntN.{ℤ, pos}
+use Rattle.rules.specs.declared.SheetElement.{SheetElement}
+use Rattle.rules.specs.Sheets.{elementButton, elementAxis}
 
 pub record Case (A : Type 0) : Type 0 where
   pub found : A
@@ -21,3 +25,11 @@ oweds (c ∷ cs) = c .owed ∷ oweds cs
 
 abbrev pub Right : {A : Type 0} → List (Case A) → Type 0
 Right cs = founds cs ≡ oweds cs
+
+-- ---- elements, as the examples' sheets list them
+
+abbrev pub button : ℕ → ℕ → SheetElement
+button code name = record { code = code; kind = elementButton; name = name; min = pos 0; max = pos 0; deadzone = 0 }
+
+abbrev pub axis : ℕ → ℕ → ℤ → ℤ → ℕ → SheetElement
+axis code name min max deadzone = record { code = code; kind = elementAxis; name = name; min = min; max = max; deadzone = deadzone }
