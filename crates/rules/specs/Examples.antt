@@ -4,3 +4,6 @@ mod Table
 mod Names
 mod Forms
 mod Sheets
+mod Places
+mod Events
+mod Dispatch

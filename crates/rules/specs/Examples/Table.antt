@@ -4,6 +4,9 @@ use mathlib.Core.Path.{_≡_}
 use mathlib.Core.List.{List, [], _∷_}
 use Prim.Native.Nat.{ℕ}
 use lib.IntN.{ℤ, pos}
+use lib.Ieee.{Float, binary32, ofBits}
+use Rattle.rules.specs.declared.Event.{Event}
+use Rattle.rules.specs.declared.EventType.{EventType}
 use Rattle.rules.specs.declared.SheetElement.{SheetElement}
 use Rattle.rules.specs.Sheets.{elementButton, elementAxis}
 
@@ -33,3 +36,15 @@ button code name = record { code = code; kind = elementButton; name = name; min 
 
 abbrev pub axis : ℕ → ℕ → ℤ → ℤ → ℕ → SheetElement
 axis code name min max deadzone = record { code = code; kind = elementAxis; name = name; min = min; max = max; deadzone = deadzone }
+
+-- ---- values and events
+
+abbrev pub half32 : Float
+half32 = ofBits binary32 0x3f000000
+
+abbrev pub threeQuarters32 : Float
+threeQuarters32 = ofBits binary32 0x3f400000
+
+-- an event of pad 0
+abbrev pub event : ℕ → EventType → Event
+event time t = record { pad = 0; time = time; event = t }
