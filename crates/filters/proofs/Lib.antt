@@ -1,0 +1,2 @@
+pub mod Hats
+pub mod Counts

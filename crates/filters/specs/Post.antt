@@ -1,0 +1,22 @@
+-- What the filters promise: the answer of the law book, and how many events it queues. Assumes nothing.
+use mathlib.Core.Path.{_≡_}
+use mathlib.Core.Bool.{Bool}
+use Prim.Native.Nat.{ℕ, _≤_}
+use Rattle.rules.specs.declared.Event.{Event}
+use Rattle.rules.specs.declared.View.{View}
+use Rattle.rules.specs.declared.Gives.{Gives}
+use Rattle.rules.specs.declared.Filtered.{Filtered}
+use Rattle.rules.specs.Filters.{Direction, dpadOf, filteredOf}
+
+-- a direction of a hat
+abbrev pub direction : ℕ → ℕ → Direction
+direction name code = record { name = name; code = code }
+
+-- dpad queues three events at most, so that a clearing event has room behind them
+pub record Converted (v : View) (e : Event) (r : Gives) : Type 0 where
+  pub is : r ≡ dpadOf v e
+  pub small : r .count ≤ 3
+
+pub record Passed (on : Bool) (v : View) (e : Event) (r : Filtered) : Type 0 where
+  pub is : r ≡ filteredOf on v e
+  pub small : r .gives .count ≤ 4
