@@ -55,11 +55,9 @@ module _ (codes : List ℕ) (p c k : ℕ) where
   unfolding checkedOf
   checked-no-pad past = rw (le-ltb p padLimit past)
 
-  pub checked-past : p < padLimit → placesPerPad * p + placesPerPad ≤ k → nowhere ≡ checkedOf codes p c k
+  pub checked-outside : p < padLimit → (k / placesPerPad ≡ p → ⊥) → nowhere ≡ checkedOf codes p c k
   unfolding checkedOf
-  checked-past stands past =
-      let other : k / placesPerPad ≡ p → ⊥ = λ e. omega arith in
-      rw (lt-ltb p padLimit stands, ne-eqb (k / placesPerPad) p other)
+  checked-outside stands other = rw (lt-ltb p padLimit stands, ne-eqb (k / placesPerPad) p other)
 
   module _ (stands : p < padLimit) (from : placesPerPad * p ≤ k) (to : k < placesPerPad * p + placesPerPad) where
     own : k / placesPerPad ≡ p

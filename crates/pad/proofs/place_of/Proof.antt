@@ -6,7 +6,7 @@ use borrow.Author.Needs.{needs}
 use denote.Ref.{now}
 use Rattle.rules.specs.Names.{placesPerPad}
 use Rattle.rules.specs.Places.{halvings, seekOf}
-use Rattle.pad.specs.Search.{checked-no-pad, checked-past, checked-other, checked-same, searched}
+use Rattle.pad.specs.Search.{checked-no-pad, checked-outside, checked-other, checked-same, searched}
 use Rattle.pad.proofs.place_of.Statement.{statement}
 use Rattle.pad.proofs.place_of.Tie as tie
 
@@ -26,7 +26,7 @@ add-if2 c = search needs
 returns-2 : tie.Need-returns-2
 returns-2 c =
     record {
-      is = searched _ _ _ _ _ (c .before .seek .ensures .is) (checked-past _ _ _ _ (omega arith) (c .if2 .taken));
+      is = searched _ _ _ _ _ (c .before .seek .ensures .is) (checked-outside _ _ _ _ (omega arith) (λ e. omega arith));
       small = omega arith;
     }
 
