@@ -6,7 +6,7 @@ ghost use Prim.Native.Nat.{_≤_};
 ghost use Rattle.numbers.specs.Constants.{zero32};
 ghost use Rattle.rules.specs.Events as events;
 ghost use Rattle.rules.specs.Filters as law;
-ghost use Rattle.filters.specs.Post.{Converted, Passed, direction};
+ghost use Rattle.filters.specs.Post.{Converted, Counted, Passed, direction};
 use numbers::Pair;
 use rules::Event;
 use rules::EventType;
@@ -96,7 +96,15 @@ fn toward(e: Event, held: bool, name: u8, code: u32, othername: u8, othercode: u
 }
 
 // The hat rests: both directions are released where they are held, the negative one last queued and first sent.
-fn centred(e: Event, positive: bool, negative: bool, name: u8, code: u32, othername: u8, othercode: u32) -> Gives
+fn centred(
+    e: Event,
+    positive: bool,
+    negative: bool,
+    name: u8,
+    code: u32,
+    othername: u8,
+    othercode: u32,
+) -> Gives
     ensures { λ r. ⌜ r ≡ law.hatBy false false positive negative e (direction name code) (direction othername othercode) ⌝ }
 {
     let release = with(e, EventType::Released(name, code));
@@ -213,7 +221,13 @@ fn clears_partner(v: View, pair: Pair) -> bool
 {
     let p = v.partner;
     let f = v.flags;
-    both(p.stands, both(pair.x == 0.0, both(pair.y == 0.0, both(f.partner, p.value != 0.0))))
+    both(
+        p.stands,
+        both(
+            pair.x == 0.0,
+            both(pair.y == 0.0, both(f.partner, p.value != 0.0)),
+        ),
+    )
 }
 
 // whether a value other than 0 was sent last: as before where the event is dropped
@@ -273,5 +287,51 @@ pub fn deadzoned(v: View, e: Event) -> Zoned
         EventType::Connected => passes(v, e),
         EventType::Disconnected => passes(v, e),
         EventType::Dropped => passes(v, e),
+    }
+}
+
+// ---- the three in order
+
+fn one_if(b: bool) -> u8
+    ensures { λ r. ⌜ Counted b r ⌝ }
+{
+    if b { 1 } else { 0 }
+}
+
+// what dpad queued, then the clearing event
+fn joined(g: Gives, z: Zoned) -> Filtered
+    requires { ⌜ g .count ≤ 3 ⌝ }
+    ensures { λ r. ⌜ r ≡ law.joined g z ⌝ }
+{
+    let mut queued = g.queued;
+    let at = g.count as usize;
+    let clearing = z.clearing;
+    queued[at] = clearing;
+    let sent = z.event;
+    let flags = z.flags;
+    Filtered {
+        gives: Gives {
+            event: sent,
+            count: g.count + one_if(z.clears),
+            queued: queued,
+        },
+        flags: flags,
+    }
+}
+
+// "The event then passes the filters, if on, in the order dpad, jitter, deadzone"
+pub fn filtered(on: bool, v: View, e: Event) -> Filtered
+    ensures { λ r. ⌜ Passed on v e r ⌝ }
+{
+    if on {
+        let g = dpad(v, e);
+        let sent = g.event;
+        let z = deadzoned(v, jittered(v, sent));
+        return joined(g, z);
+    }
+    let flags = v.flags;
+    Filtered {
+        gives: alone(e),
+        flags: flags,
     }
 }
