@@ -11,10 +11,13 @@ use Rattle.rules.specs.declared.EventType.{EventType}
 use Rattle.rules.specs.declared.EventType.the-variants.{Pressed, Released, Repeated, Changed, Axis, Connected, Disconnected, Dropped}
 use Rattle.rules.specs.declared.View.{View}
 use Rattle.rules.specs.declared.Gives.{Gives}
+use Rattle.rules.specs.declared.Zoned.{Zoned}
+use Rattle.rules.specs.declared.Filtered.{Filtered}
+use Rattle.rules.specs.Places.{oneIf}
 use Rattle.rules.specs.Events.{alone}
-use Rattle.rules.specs.Filters.{Direction, hatBy, hatGives, dpadType, dpadOf}
+use Rattle.rules.specs.Filters.{Direction, hatBy, hatGives, dpadType, dpadOf, jitteredOf, deadzonedOf, joined, filteredOf}
 use Rattle.filters.proofs.Hats.{plus, minus}
-use Rattle.filters.specs.Post.{Converted}
+use Rattle.filters.specs.Post.{Converted, Passed}
 
 hat-few : (a b p q : Bool) (e : Event) (i j : Direction) → hatBy a b p q e i j .count ≤ 3
 unfolding hatBy
@@ -45,6 +48,25 @@ type-few Connected v e = omega arith
 type-few Disconnected v e = omega arith
 type-few Dropped v e = omega arith
 
-pub converted : {v : View} {e : Event} {r : Gives} → r ≡ dpadOf v e → Converted v e r
+dpad-few : (v : View) (e : Event) → dpadOf v e .count ≤ 3
 unfolding dpadOf
-converted {v} {e} {r} is = record { is = is; small = rw is (type-few (e .event) v e) }
+dpad-few v e = type-few (e .event) v e
+
+pub converted : {v : View} {e : Event} {r : Gives} → r ≡ dpadOf v e → Converted v e r
+converted {v} {e} is = record { is = is; small = rw is (dpad-few v e) }
+
+one-few : (b : Bool) → oneIf b ≤ 1
+one-few true = omega arith
+one-few false = omega arith
+
+joined-few : (g : Gives) (z : Zoned) → g .count ≤ 3 → joined g z .gives .count ≤ 4
+unfolding joined
+joined-few g z few = omega (arith, one-few (z .clears))
+
+filtered-few : (on : Bool) (v : View) (e : Event) → filteredOf on v e .gives .count ≤ 4
+unfolding filteredOf
+filtered-few true v e = joined-few (dpadOf v e) (deadzonedOf v (jitteredOf v (dpadOf v e .event))) (dpad-few v e)
+filtered-few false v e = omega arith
+
+pub passed : {on : Bool} {v : View} {e : Event} {r : Filtered} → r ≡ filteredOf on v e → Passed on v e r
+passed {on} {v} {e} is = record { is = is; small = rw is (filtered-few on v e) }

@@ -6,6 +6,7 @@ use Rattle.rules.specs.declared.Event.{Event}
 use Rattle.rules.specs.declared.View.{View}
 use Rattle.rules.specs.declared.Gives.{Gives}
 use Rattle.rules.specs.declared.Filtered.{Filtered}
+use Rattle.rules.specs.Places.{oneIf}
 use Rattle.rules.specs.Filters.{Direction, dpadOf, filteredOf}
 
 -- a direction of a hat
@@ -16,6 +17,10 @@ direction name code = record { name = name; code = code }
 pub record Converted (v : View) (e : Event) (r : Gives) : Type 0 where
   pub is : r ≡ dpadOf v e
   pub small : r .count ≤ 3
+
+pub record Counted (b : Bool) (r : ℕ) : Type 0 where
+  pub is : r ≡ oneIf b
+  pub small : r ≤ 1
 
 pub record Passed (on : Bool) (v : View) (e : Event) (r : Filtered) : Type 0 where
   pub is : r ≡ filteredOf on v e
