@@ -7,3 +7,6 @@ mod Sheets
 mod Places
 mod Events
 mod Dispatch
+mod Filters
+mod State
+mod Refusals
