@@ -10,3 +10,5 @@ mod Dispatch
 mod Filters
 mod State
 mod Refusals
+mod Desk
+mod Pump
