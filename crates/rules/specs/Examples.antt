@@ -11,4 +11,6 @@ mod Filters
 mod State
 mod Refusals
 mod Desk
+mod Hub
+mod Step
 mod Pump

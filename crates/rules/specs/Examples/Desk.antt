@@ -54,18 +54,27 @@ sheet = sheetBytes 0 elements
 
 -- a hub of no pads, thresholds 0.75 and 0.5, Y not reversed, with filters and updates on or off
 unfoldable pub bare : Bool → Bool → Hub
-unfolding newOf
+unfolding newOf Ieee.ofBits Ieee.lt Ieee.le
 bare filters updates = newOf threeQuarters32 half32 false filters updates .hub
 
 unfoldable pub desk : Bool → Bool → Hub
-unfolding bare sheet registerOf
+unfolding bare sheet registerOf Ieee.ofInt Ieee.sub Ieee.mul Ieee.div
 desk filters updates = registerOf (bare filters updates) sheet .hub
 
--- ---- records of pad 0
+-- two pads of that sheet
+unfoldable pub twoPads : Hub
+unfolding desk sheet registerOf
+twoPads = registerOf (desk true true) sheet .hub
+
+-- ---- records, of pad 0 where none is given
+
+unfoldable pub rawOf : ℕ → ℕ → ℕ → ℤ → ℕ → List ℕ
+unfolding recordBytes
+rawOf pad kind code value time = recordBytes (record { kind = kind; pad = pad; code = code; value = value; time = time })
 
 unfoldable pub raw : ℕ → ℕ → ℤ → ℕ → List ℕ
-unfolding recordBytes
-raw kind code value time = recordBytes (record { kind = kind; pad = 0; code = code; value = value; time = time })
+unfolding rawOf
+raw kind code value time = rawOf 0 kind code value time
 
 abbrev pub press : ℕ → ℕ → List ℕ
 press code time = raw 1 code (pos 0) time
@@ -104,7 +113,7 @@ pub record Told : Type 0 where
   pub bytes : List ℕ
 
 unfoldable pub eventsBytes : List Event → List ℕ
-unfolding eventBytes
+unfolding eventBytes Ieee.ofBits Ieee.toBits
 eventsBytes [] = []
 eventsBytes (e ∷ es) = eventBytes e ++ eventsBytes es
 
