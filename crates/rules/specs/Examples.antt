@@ -14,3 +14,6 @@ mod Desk
 mod Hub
 mod Step
 mod Pump
+mod Repeat
+mod Calls
+mod Queries
