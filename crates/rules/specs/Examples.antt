@@ -17,3 +17,4 @@ mod Pump
 mod Repeat
 mod Calls
 mod Queries
+mod Answers

@@ -17,7 +17,6 @@ use Rattle.rules.specs.declared.NumberAnswer.the-variants as numberAnswe
 use Rattle.rules.specs.Names.{codeLeft, dpadLeft}
 use Rattle.rules.specs.Calls.{updateOf}
 use Rattle.rules.specs.Queries.{pressedByCode, pressedByName, connectedOf, valueByCode, valueByName, thresholdByCode, buttonByCode, buttonByName, axisByCode, axisByName, nameByCode, codeByName}
-use Rattle.rules.specs.Answers.{Said, served, refused, truthSays, valueSays, buttonSays, axisSays, numberSays}
 use Rattle.rules.specs.Examples.Table.{Case, _is_, Right, event, half32}
 use Rattle.rules.specs.Examples.Desk.{desk, south, plain, stickX, trigger, hatX, raw, press, move, after, eventsBytes}
 
