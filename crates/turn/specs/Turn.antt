@@ -1,12 +1,12 @@
 -- What a turn answers where a caller needs more than an equation: a ring's place with its bound, and the events to push as a part of an array, with the
 -- law that the part is the law book's list. Assumes nothing.
 use Prim.Native.Nat.{ℕ, zero, suc, _+_, _-_, _≤_, _<_}
-use mathlib.Core.Path.{_≡_, refl}
+use mathlib.Core.Path.{_≡_, refl, sym, _∙_}
 use mathlib.Core.Bool.{Bool, true, false, cond}
-use mathlib.Core.List.{List, [], _∷_}
+use mathlib.Core.List.{List, [], _∷_, map}
 use native.Mathlib.Numerals.{add-one}
 use native.Mathlib.Omega.{arith}
-use lib.ListN.{length, getD, take, drop}
+use lib.ListN.{length, length-map, getD, take, drop}
 use Rattle.rules.specs.declared.Event.{Event}
 use Rattle.rules.specs.declared.Dispatched.{Dispatched}
 use Rattle.rules.specs.declared.Gives.{Gives}
@@ -37,10 +37,18 @@ four past (a ∷ b ∷ c ∷ d ∷ []) e = refl
 four past (a ∷ b ∷ c ∷ d ∷ x ∷ xs) e = absurd (omega arith)
 
 -- the record's own event before the filters', left out where there is none
-pub pushed : (past : Event) (d : Dispatched) (g : Gives) → length (g .queued) ≡ 4 → part (d .next ∷ getD (g .queued) 0 past ∷ getD (g .queued) 1 past ∷ getD (g .queued) 2 past ∷ getD (g .queued) 3 past ∷ []) (cond (d .follows) 0 1) (g .count + 1) ≡ pushesOf d g
+pub pushes-are : (past : Event) (d : Dispatched) (g : Gives) → length (g .queued) ≡ 4 → part (d .next ∷ getD (g .queued) 0 past ∷ getD (g .queued) 1 past ∷ getD (g .queued) 2 past ∷ getD (g .queued) 3 past ∷ []) (cond (d .follows) 0 1) (g .count + 1) ≡ pushesOf d g
 unfolding pushesOf queuedOf
-pushed past d g long = rw (four past (g .queued) long, add-one) (go (d .follows))
+pushes-are past d g long = rw (four past (g .queued) long, add-one) (go (d .follows))
   where
     go : (b : Bool) → drop (cond b 0 1) (take (suc (g .count)) (d .next ∷ g .queued)) ≡ cond b (d .next ∷ take (g .count) (g .queued)) (take (g .count) (g .queued))
     go true = refl
     go false = refl
+
+pub first-small : (follows : Bool) (n : ℕ) → cond follows 0 1 ≤ n + 1
+first-small true n = omega arith
+first-small false n = omega arith
+
+-- the length of an array of structs, as the checker knows it, is its list's
+pub unmapped : {A B : Type 0} (f : A → B) (l : List A) (n : ℕ) → length (map f l) ≡ n → length l ≡ n
+unmapped f l n e = sym (length-map l f) ∙ e

@@ -1,4 +1,8 @@
 -- `turn::pushed` meets its contract: the part of the array is the list, by one law. Assumes nothing.
+use Prim.Native.Nat.{ℕ, _+_, _≤_}
+use mathlib.Core.Path.{_≡_}
+use mathlib.Core.Bool.{Bool, true, false, cond}
+use Rattle.turn.specs.Turn.{pushes-are, first-small, unmapped}
 use native.Mathlib.Omega.{arith}
 use borrow.Author.Needs.{needs}
 use Rattle.turn.proofs.pushed.Statement.{statement}
@@ -26,7 +30,14 @@ array-copy-out-t19 : tie.Need-array-copy-out-t19
 array-copy-out-t19 c = search needs
 
 returns : tie.Need-returns
-returns c = ?
+returns c = let d = c .before .before .before .before .before .before .before .before .args .d in
+    let n = c .before .before .before .before .wide .ensures .0 in
+    let f = c .before .before .before .before .before .first-pushed .ensures in
+    record {
+      is = rw (n, f) (pushes-are _ d (c .before .before .before .before .before .before .before .before .args .g) (search (needs, unmapped)));
+      ordered = rw f (first-small (d .follows) _);
+      small = omega (arith, n, c .before .before .before .before .before .before .before .before .pre);
+    }
 
 pub pushed-spec : {M : Type 1} → statement M
 pushed-spec =
