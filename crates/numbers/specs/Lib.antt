@@ -6,3 +6,8 @@ pub mod Deadzone
 pub mod Jitter
 pub mod Examples
 pub mod RootTable
+pub mod Whole
+pub mod Order
+pub mod NoNan
+pub mod Bounds
+pub mod Zeros

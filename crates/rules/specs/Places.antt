@@ -20,7 +20,8 @@ use Rattle.rules.specs.Sheets.{elementOf, elementButton, lastHats}
 unfoldable pub seekOf : ℕ → List ℕ → ℕ → ℕ → ℕ → ℕ
 seekOf zero codes lo n c = lo
 seekOf (suc k) codes lo n c =
-    cond (ltb (getD codes (lo + n / 2) 0) c) (seekOf k codes (lo + n / 2 + 1) (n - n / 2 - 1) c) (seekOf k codes lo (n / 2) c)
+    cond (eqb n 0) lo
+    (cond (ltb (getD codes (lo + n / 2) 0) c) (seekOf k codes (lo + n / 2 + 1) (n - n / 2 - 1) c) (seekOf k codes lo (n / 2) c))
 
 -- 52 places are halved six times
 abbrev pub halvings : ℕ
@@ -126,3 +127,9 @@ unfolding directionNamed namedOf
 convertsOf hats codes names p =
     eqb hats lastHats
     || (eqb hats 0 && (not (directionNamed codes names p) && eqb (namedOf names p dpadRight) nowhere))
+
+-- ---- marks taken off: n of them from the i-th on
+
+unfoldable pub clearedOf : List Bool → ℕ → ℕ → List Bool
+clearedOf marks i zero = marks
+clearedOf marks i (suc n) = clearedOf (set marks i false) (i + 1) n

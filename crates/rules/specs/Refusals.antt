@@ -6,11 +6,8 @@ use lib.Dec.{eqb, ltb, leb}
 use lib.Ieee.{Float, lt, le}
 use Rattle.numbers.specs.Constants.{zero32, one32, withinOf}
 use Rattle.rules.specs.declared.RawRecord.{RawRecord}
-use Rattle.rules.specs.declared.RecordRead.{RecordRead}
-use Rattle.rules.specs.declared.RecordRead.the-variants as recordRead
+use Rattle.rules.specs.declared.Looked.{Looked}
 use Rattle.rules.specs.declared.EventForm.{EventForm}
-use Rattle.rules.specs.declared.EventRead.{EventRead}
-use Rattle.rules.specs.declared.EventRead.the-variants as eventRead
 use Rattle.rules.specs.Names.{padLimit, nowhere, lastTime, lastWait, bufferLimit, insertLimit, namesButton, namesAxis}
 use Rattle.rules.specs.Forms.{kindAxis, eventAxis}
 use Rattle.rules.specs.Sheets.{elementButton, elementAxis}
@@ -61,9 +58,10 @@ fieldsRefusal r pads kind =
     (first (elementRefusal (r .kind) kind)
     (first (unlessFits (withinOf (r .value)) 11) (unlessFits (timeFits (r .time)) 12)))
 
-abbrev pub recordRefusalBy : RecordRead → ℕ → ℕ → ℕ
-recordRefusalBy (recordRead.Record r) pads kind = fieldsRefusal r pads kind
-recordRefusalBy recordRead.Malformed pads kind = 8
+-- 8 first, then what the fields say
+unfoldable pub recordRefusal : Looked → ℕ → ℕ → ℕ
+unfolding fieldsRefusal
+recordRefusal l pads kind = first (unlessFits (l .fits) 8) (fieldsRefusal (l .raw) pads kind)
 
 -- place: of the event's code, `nowhere` where it is neither listed nor a direction's. Events of kinds 6 to 8 carry none.
 unfoldable pub codeRefusal : ℕ → ℕ → ℕ

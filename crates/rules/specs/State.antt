@@ -1,13 +1,15 @@
 -- State: the records of a code after an event, 000's `GamepadState`, and what is read of them. Definitions only. Assumes nothing.
-use Prim.Native.Nat.{ℕ}
-use mathlib.Core.Bool.{Bool, true, false, cond, _&&_, _||_}
-use lib.Ieee.{Float, nan}
+use Prim.Native.Nat.{ℕ, _+_}
+use mathlib.Core.Bool.{Bool, true, false, cond, _&&_}
+use lib.Dec.{ltb}
+use lib.Ieee.{Float}
 use Rattle.numbers.specs.Constants.{zero32, one32}
 use Rattle.rules.specs.declared.Event.{Event}
 use Rattle.rules.specs.declared.EventType.{EventType}
 use Rattle.rules.specs.declared.EventType.the-variants.{Pressed, Released, Repeated, Changed, Axis, Connected, Disconnected, Dropped}
 use Rattle.rules.specs.declared.ButtonData.{ButtonData}
 use Rattle.rules.specs.declared.AxisData.{AxisData}
+use Rattle.rules.specs.Names.{lastTime}
 
 -- ---- reads
 
@@ -80,3 +82,8 @@ writesAxisType Dropped = false
 
 unfoldable pub writesAxis : Event → Bool
 writesAxis e = writesAxisType (e .event)
+
+-- ---- "The counter goes from 2^62-1 to 0": `inc`
+
+unfoldable pub nextCounter : ℕ → ℕ
+nextCounter n = cond (ltb n lastTime) (n + 1) 0

@@ -43,6 +43,12 @@ pub enum RecordRead {
     Malformed,
 }
 
+// The record that a step looks at: where the queue still holds something, or the record is malformed, a blank one.
+pub struct Looked {
+    pub raw: RawRecord,
+    pub fits: bool,
+}
+
 // An event's 22 bytes, as they stand: the value is still bits.
 pub struct EventForm {
     pub kind: u8,

@@ -2,13 +2,13 @@
 -- Stated over plain numbers, for the proofs of every function that casts. Assumes nothing.
 use mathlib.Core.Path.{_≡_, sym, ap, subst}
 use mathlib.Core.Bool.{Bool, true, false, cond, _||_}
-use Prim.Native.Nat.{ℕ, zero, suc, _+_, _-_, _/_, _≤_, _<_, _^_}
+use Prim.Native.Nat.{ℕ, zero, suc, _+_, _-_, _/_, _≤_, _<_}
 use native.Mathlib.Nat.{div-le-self}
 use native.Mathlib.Omega.{arith}
 use lib.IntN.{ℤ, pos, negsuc, negℤ, subℕ, _-ℤ_}
-use lib.Signed.{mag, quotZ, remZ}
-use lib.Dec.{T, ltb, eqb, le→leb, lt→ltb}
-use lib.Ieee.{Float, binary32, ofInt, inFloat}
+use lib.Signed.{mag, quotZ}
+use lib.Dec.{T, ltb, le→leb, lt→ltb}
+use lib.Ieee.{binary32, ofInt, inFloat}
 use borrow.Author.Tests.{ltb-true, ne-eqb}
 use mir.Syntax.{w32}
 use mir.Val.{SFits, toZ, ofZ}

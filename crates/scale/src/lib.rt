@@ -1,7 +1,5 @@
 ghost use mathlib.Core.Path.{_≡_};
 ghost use mathlib.Core.Bool.{true};
-ghost use lib.Ieee as Ieee;
-ghost use lib.Ieee.{binary32};
 ghost use Rattle.numbers.specs.Constants.{withinOf, deadzoneWithinOf};
 ghost use Rattle.numbers.specs.Scale.{lowOf, rangeOf, oddOf, plusOdd, turnedOf, axisScaledOf, buttonScaledOf, thresholdOf};
 ghost use Rattle.numbers.specs.Deadzone.{deadzoneOf};

@@ -1,6 +1,5 @@
 -- `odd_of` meets its contract: no difference of two numbers inside 01's limits wraps, and the machine's remainder by 2 is the definition's. Assumes nothing.
 use mathlib.Core.Path.{_≡_, refl, sym, subst}
-use mathlib.Core.Bool.{Bool}
 use Prim.Native.Nat.{ℕ, zero, suc, _%_, _<_}
 use native.Mathlib.Nat.{mod-lt}
 use native.Mathlib.Omega.{arith}
@@ -10,8 +9,6 @@ use lib.Dec.{eqb}
 use mir.Syntax.{w32}
 use mir.Val.{SFits, toZ, ofZ}
 use mir.Facts.{toZ-ofZ}
-use borrow.Author.Tests.{ne-eqb}
-use Rattle.numbers.specs.Constants.{withinOf}
 use Rattle.numbers.specs.Scale.{isOne, oddOf}
 use Rattle.scale.specs.Casts.{read, range-fits, half-fits}
 use Rattle.scale.proofs.odd_of.Statement.{statement}

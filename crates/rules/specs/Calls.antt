@@ -1,0 +1,328 @@
+-- The public calls that change the hub, but the pump: new, register, rename, update, insert_event, inc and reset_counter. A refusal leaves the hub as it
+-- was. Definitions only. Assumes nothing.
+use Prim.Native.Nat.{ℕ, zero, suc, _+_, _-_, _*_}
+use mathlib.Core.Bool.{Bool, true, false, cond, not}
+use mathlib.Core.List.{List, [], _∷_, map}
+use lib.ListN.{length, getD, set, replicate}
+use lib.Dec.{eqb, ltb, leb}
+use lib.Ieee.{Float}
+use Rattle.numbers.specs.Constants.{zero32, one32}
+use Rattle.rules.specs.declared.Hub.{Hub}
+use Rattle.rules.specs.declared.Event.{Event}
+use Rattle.rules.specs.declared.EventForm.{EventForm}
+use Rattle.rules.specs.declared.EventRead.{EventRead}
+use Rattle.rules.specs.declared.EventRead.the-variants as eventRead
+use Rattle.rules.specs.declared.ButtonData.{ButtonData}
+use Rattle.rules.specs.declared.AxisData.{AxisData}
+use Rattle.rules.specs.declared.Slot.{Slot}
+use Rattle.rules.specs.declared.Row.{Row}
+use Rattle.rules.specs.declared.Element.{Element}
+use Rattle.rules.specs.declared.Answer.{Answer}
+use Rattle.rules.specs.declared.Answer.the-variants as answer
+use Rattle.rules.specs.declared.Answered.{Answered}
+use Rattle.rules.specs.declared.RegisterAnswer.{RegisterAnswer}
+use Rattle.rules.specs.declared.RegisterAnswer.the-variants as registerAnswer
+use Rattle.rules.specs.declared.Registered.{Registered}
+use Rattle.rules.specs.Names.{padLimit, placesPerPad, nowhere, noName, queueRoom, flagsPerPad}
+use Rattle.rules.specs.Forms.{readEvent}
+use Rattle.rules.specs.Sheets.{sheetRefusal, hatsOf, countOf, renameListRefusal}
+use Rattle.rules.specs.Places.{placeOf, noElement, rowsOf, convertsOf, clearedOf, oneIf}
+use Rattle.rules.specs.Refusals.{thresholdsRefusal, standsOf, formRefusal, insertRefusal, first, unlessFits}
+use Rattle.rules.specs.Events.{formEvent}
+use Rattle.rules.specs.State.{nextCounter}
+use Rattle.rules.specs.Hub.{placeIn, queueAfter, waitingAfter}
+use Rattle.rules.specs.Step.{updatedOf}
+
+-- ---- new
+
+abbrev pub blankButton : ButtonData
+blankButton = record { value = zero32; stamp = 0; counter = 0; pressed = false; repeating = false }
+
+abbrev pub blankAxis : AxisData
+blankAxis = record { value = zero32; stamp = 0; counter = 0 }
+
+abbrev pub blankSlot : Slot
+blankSlot = record { kind = 0; pad = 0; name = 0; code = 0; value = zero32; time = 0 }
+
+-- a hub with no pads, an empty queue and the counter at 0
+unfoldable pub freshHub : Float → Float → Bool → Bool → Bool → Hub
+freshHub pressed released reversed filters updates =
+    record {
+      pressed = pressed;
+      released = released;
+      reversed = reversed;
+      filters = filters;
+      updates = updates;
+      counter = 0;
+      pads = 0;
+      counts = replicate padLimit 0;
+      connected = replicate padLimit false;
+      hats = replicate padLimit 0;
+      converts = replicate padLimit false;
+      renamed = replicate padLimit false;
+      rehats = replicate padLimit 0;
+      reconverts = replicate padLimit false;
+      codes = replicate nowhere 0;
+      kinds = replicate nowhere 0;
+      names = replicate nowhere noName;
+      renames = replicate nowhere noName;
+      elements = replicate (nowhere + 1) noElement;
+      touched = replicate nowhere false;
+      buttons = replicate (nowhere + 1) blankButton;
+      moved = replicate nowhere false;
+      axes = replicate (nowhere + 1) blankAxis;
+      flags = replicate (flagsPerPad * padLimit) false;
+      queue = replicate queueRoom blankSlot;
+      head = 0;
+      waiting = 0;
+    }
+
+-- what a refused `new` hands back: a hub that filters and updates nothing
+unfoldable pub idleHub : Hub
+unfolding freshHub
+idleHub = freshHub one32 zero32 false false false
+
+abbrev pub newBy : ℕ → Hub → Answered
+newBy zero h = record { hub = h; answer = answer.Done }
+newBy (suc number) h = record { hub = idleHub; answer = answer.Refused (suc number) }
+
+unfoldable pub newOf : Float → Float → Bool → Bool → Bool → Answered
+unfolding thresholdsRefusal freshHub idleHub
+newOf pressed released reversed filters updates =
+    newBy (thresholdsRefusal pressed released) (freshHub pressed released reversed filters updates)
+
+-- ---- register: "Pads 0..3, registered in that order"; "Sheet order: 2, 3, 4, 5"
+
+-- a run of an array, filled from k on
+unfoldable pub laid : {A : Type 0} → List A → ℕ → List A → List A
+laid xs k [] = xs
+laid xs k (v ∷ vs) = laid (set xs k v) (k + 1) vs
+
+abbrev pub rowCode : Row → ℕ
+rowCode r = r .code
+
+abbrev pub rowKind : Row → ℕ
+rowKind r = r .kind
+
+abbrev pub rowName : Row → ℕ
+rowName r = r .name
+
+abbrev pub rowElement : Row → Element
+rowElement r = r .element
+
+-- the rows of a good sheet in the next pad's places, and a fresh state
+unfoldable pub registeredAt : Hub → ℕ → ℕ → ℕ → List Row → Hub
+unfolding laid clearedOf convertsOf
+registeredAt h p hats count rows =
+    record {
+      pressed = h .pressed;
+      released = h .released;
+      reversed = h .reversed;
+      filters = h .filters;
+      updates = h .updates;
+      counter = h .counter;
+      pads = p + 1;
+      counts = set (h .counts) p count;
+      connected = set (h .connected) p true;
+      hats = set (h .hats) p hats;
+      converts =
+          set (h .converts) p
+          (convertsOf hats (laid (h .codes) (placesPerPad * p) (map rowCode rows)) (laid (h .names) (placesPerPad * p) (map rowName rows)) p);
+      renamed = set (h .renamed) p false;
+      rehats = h .rehats;
+      reconverts = h .reconverts;
+      codes = laid (h .codes) (placesPerPad * p) (map rowCode rows);
+      kinds = laid (h .kinds) (placesPerPad * p) (map rowKind rows);
+      names = laid (h .names) (placesPerPad * p) (map rowName rows);
+      renames = h .renames;
+      elements = laid (h .elements) (placesPerPad * p) (map rowElement rows);
+      touched = clearedOf (h .touched) (placesPerPad * p) placesPerPad;
+      buttons = h .buttons;
+      moved = clearedOf (h .moved) (placesPerPad * p) placesPerPad;
+      axes = h .axes;
+      flags = clearedOf (h .flags) (flagsPerPad * p) flagsPerPad;
+      queue = h .queue;
+      head = h .head;
+      waiting = h .waiting;
+    }
+
+-- 2: "four pads stand"
+unfoldable pub registerRefusal : ℕ → List ℕ → ℕ
+unfolding sheetRefusal
+registerRefusal pads s = first (unlessFits (ltb pads padLimit) 2) (sheetRefusal s)
+
+abbrev pub registerBy : ℕ → Hub → List ℕ → Registered
+registerBy zero h s =
+    record { hub = registeredAt h (h .pads) (hatsOf s) (countOf s) (rowsOf s (countOf s)); answer = registerAnswer.Pad (h .pads) }
+registerBy (suc number) h s = record { hub = h; answer = registerAnswer.Refused (suc number) }
+
+unfoldable pub registerOf : Hub → List ℕ → Registered
+unfolding registerRefusal registeredAt hatsOf countOf rowsOf
+registerOf h s = registerBy (registerRefusal (h .pads) s) h s
+
+-- ---- rename: "The new names hold at once, hats become 0; state, flags and waiting events stay"
+
+-- the i-th name goes to the i-th listed element, and so on for the n places from k on; a place that the sheet does not list has no name
+unfoldable pub renamesAfter : List ℕ → List ℕ → List ℕ → ℕ → ℕ → ℕ → List ℕ
+renamesAfter renames kinds list zero k i = renames
+renamesAfter renames kinds list (suc n) k i =
+    renamesAfter (set renames k (cond (eqb (getD kinds k 0) 0) noName (getD list i 0))) kinds list n (k + 1)
+    (i + oneIf (not (eqb (getD kinds k 0) 0)))
+
+unfoldable pub renamesOf : Hub → ℕ → List ℕ → List ℕ
+unfolding renamesAfter
+renamesOf h p list = renamesAfter (h .renames) (h .kinds) list placesPerPad (placesPerPad * p) 0
+
+unfoldable pub renamedAt : Hub → ℕ → List ℕ → Hub
+unfolding convertsOf
+renamedAt h p renames =
+    record {
+      pressed = h .pressed;
+      released = h .released;
+      reversed = h .reversed;
+      filters = h .filters;
+      updates = h .updates;
+      counter = h .counter;
+      pads = h .pads;
+      counts = h .counts;
+      connected = h .connected;
+      hats = h .hats;
+      converts = h .converts;
+      renamed = set (h .renamed) p true;
+      rehats = set (h .rehats) p 0;
+      reconverts = set (h .reconverts) p (convertsOf 0 (h .codes) renames p);
+      codes = h .codes;
+      kinds = h .kinds;
+      names = h .names;
+      renames = renames;
+      elements = h .elements;
+      touched = h .touched;
+      buttons = h .buttons;
+      moved = h .moved;
+      axes = h .axes;
+      flags = h .flags;
+      queue = h .queue;
+      head = h .head;
+      waiting = h .waiting;
+    }
+
+-- "Rename: 6, 7, 3, 4, 5"; 7: "rename of a disconnected pad"
+unfoldable pub renameRefusal : Hub → ℕ → List ℕ → ℕ
+unfolding standsOf renameListRefusal
+renameRefusal h p list =
+    first (unlessFits (standsOf (h .pads) p) 6)
+    (first (unlessFits (getD (h .connected) p false) 7) (renameListRefusal list (getD (h .counts) p 0)))
+
+abbrev pub renameBy : ℕ → Hub → ℕ → List ℕ → Answered
+renameBy zero h p list = record { hub = renamedAt h p (renamesOf h p list); answer = answer.Done }
+renameBy (suc number) h p list = record { hub = h; answer = answer.Refused (suc number) }
+
+unfoldable pub renameOf : Hub → ℕ → List ℕ → Answered
+unfolding renameRefusal renamedAt renamesOf
+renameOf h p list = renameBy (renameRefusal h p list) h p list
+
+-- ---- update and insert_event
+
+-- where the form's code stands
+abbrev pub formPlace : Hub → EventForm → ℕ
+formPlace h f = placeIn h (f .pad) (f .code)
+
+abbrev pub updateFormBy : ℕ → Hub → EventForm → Answered
+updateFormBy zero h f = record { hub = updatedOf true h (formEvent f); answer = answer.Done }
+updateFormBy (suc number) h f = record { hub = h; answer = answer.Refused (suc number) }
+
+abbrev pub updateBy : EventRead → Hub → Answered
+updateBy (eventRead.Form f) h = updateFormBy (formRefusal f (h .pads) (formPlace h f)) h f
+updateBy eventRead.Malformed h = record { hub = h; answer = answer.Refused 8 }
+
+unfoldable pub updateOf : Hub → List ℕ → Answered
+unfolding readEvent formRefusal placeOf updatedOf formEvent
+updateOf h s = updateBy (readEvent s) h
+
+-- one event more waits
+unfoldable pub insertedAt : Hub → Event → Hub
+unfolding queueAfter waitingAfter
+insertedAt h e =
+    record {
+      pressed = h .pressed;
+      released = h .released;
+      reversed = h .reversed;
+      filters = h .filters;
+      updates = h .updates;
+      counter = h .counter;
+      pads = h .pads;
+      counts = h .counts;
+      connected = h .connected;
+      hats = h .hats;
+      converts = h .converts;
+      renamed = h .renamed;
+      rehats = h .rehats;
+      reconverts = h .reconverts;
+      codes = h .codes;
+      kinds = h .kinds;
+      names = h .names;
+      renames = h .renames;
+      elements = h .elements;
+      touched = h .touched;
+      buttons = h .buttons;
+      moved = h .moved;
+      axes = h .axes;
+      flags = h .flags;
+      queue = queueAfter (h .queue) (h .head) (h .waiting) (e ∷ []);
+      head = h .head;
+      waiting = waitingAfter (h .waiting) (e ∷ []);
+    }
+
+abbrev pub insertFormBy : ℕ → Hub → EventForm → Answered
+insertFormBy zero h f = record { hub = insertedAt h (formEvent f); answer = answer.Done }
+insertFormBy (suc number) h f = record { hub = h; answer = answer.Refused (suc number) }
+
+abbrev pub insertBy : EventRead → Hub → Answered
+insertBy (eventRead.Form f) h = insertFormBy (insertRefusal f (h .pads) (formPlace h f) (h .waiting)) h f
+insertBy eventRead.Malformed h = record { hub = h; answer = answer.Refused 8 }
+
+unfoldable pub insertOf : Hub → List ℕ → Answered
+unfolding readEvent insertRefusal placeOf insertedAt formEvent
+insertOf h s = insertBy (readEvent s) h
+
+-- ---- the counter
+
+unfoldable pub countedAt : Hub → ℕ → Hub
+countedAt h n =
+    record {
+      pressed = h .pressed;
+      released = h .released;
+      reversed = h .reversed;
+      filters = h .filters;
+      updates = h .updates;
+      counter = n;
+      pads = h .pads;
+      counts = h .counts;
+      connected = h .connected;
+      hats = h .hats;
+      converts = h .converts;
+      renamed = h .renamed;
+      rehats = h .rehats;
+      reconverts = h .reconverts;
+      codes = h .codes;
+      kinds = h .kinds;
+      names = h .names;
+      renames = h .renames;
+      elements = h .elements;
+      touched = h .touched;
+      buttons = h .buttons;
+      moved = h .moved;
+      axes = h .axes;
+      flags = h .flags;
+      queue = h .queue;
+      head = h .head;
+      waiting = h .waiting;
+    }
+
+unfoldable pub incOf : Hub → Hub
+unfolding countedAt nextCounter
+incOf h = countedAt h (nextCounter (h .counter))
+
+unfoldable pub resetOf : Hub → Hub
+unfolding countedAt
+resetOf h = countedAt h 0

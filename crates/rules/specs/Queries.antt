@@ -1,0 +1,124 @@
+-- The queries: they read the hub and change nothing. "Query: 6, 16"; "A query by a code not known reads false or 0.0". Definitions only.
+-- Assumes nothing.
+use Prim.Native.Nat.{ℕ, zero, suc}
+use mathlib.Core.Bool.{Bool, true, false, cond}
+use lib.ListN.{getD}
+use lib.Dec.{eqb, ltb}
+use lib.Ieee.{Float}
+use Rattle.numbers.specs.Constants.{zero32}
+use Rattle.rules.specs.declared.Hub.{Hub}
+use Rattle.rules.specs.declared.ButtonData.{ButtonData}
+use Rattle.rules.specs.declared.AxisData.{AxisData}
+use Rattle.rules.specs.declared.TruthAnswer.{TruthAnswer}
+use Rattle.rules.specs.declared.TruthAnswer.the-variants as truthAnswer
+use Rattle.rules.specs.declared.ValueAnswer.{ValueAnswer}
+use Rattle.rules.specs.declared.ValueAnswer.the-variants as valueAnswer
+use Rattle.rules.specs.declared.ButtonAnswer.{ButtonAnswer}
+use Rattle.rules.specs.declared.ButtonAnswer.the-variants as buttonAnswer
+use Rattle.rules.specs.declared.AxisAnswer.{AxisAnswer}
+use Rattle.rules.specs.declared.AxisAnswer.the-variants as axisAnswer
+use Rattle.rules.specs.declared.NumberAnswer.{NumberAnswer}
+use Rattle.rules.specs.declared.NumberAnswer.the-variants as numberAnswer
+use Rattle.rules.specs.Names.{nowhere, noName, toNec}
+use Rattle.rules.specs.Sheets.{elementAxis}
+use Rattle.rules.specs.Places.{placeOf, namedOf, presentNames}
+use Rattle.rules.specs.Refusals.{standsOf, unlessFits, buttonQueryRefusal, axisQueryRefusal, nameQueryRefusal}
+use Rattle.rules.specs.Hub.{placeIn, namesIn, nameIn, kindAt, elementAt, buttonAt, axisAt, touchedAt, movedAt, pressedAt, valueAt}
+
+-- 6 alone: a query by a code, or by a pad
+abbrev pub padRefusal : Hub → ℕ → ℕ
+padRefusal h p = unlessFits (standsOf (h .pads) p) 6
+
+-- the place that has a name
+abbrev pub namedIn : Hub → ℕ → ℕ → ℕ
+namedIn h p n = namedOf (namesIn h p) p n
+
+-- ---- pressed
+
+abbrev pub truthBy : ℕ → Bool → TruthAnswer
+truthBy zero b = truthAnswer.Is b
+truthBy (suc number) b = truthAnswer.Refused (suc number)
+
+unfoldable pub pressedByCode : Hub → ℕ → ℕ → TruthAnswer
+unfolding standsOf placeOf pressedAt
+pressedByCode h p c = truthBy (padRefusal h p) (pressedAt h (placeIn h p c))
+
+-- "`is_pressed` by a name that no element has falls back to `to_nec`"
+unfoldable pub buttonPlace : Hub → ℕ → ℕ → ℕ
+unfolding placeOf namedOf presentNames toNec
+buttonPlace h p n = cond (ltb (namedIn h p n) nowhere) (namedIn h p n) (placeIn h p (toNec n))
+
+unfoldable pub pressedByName : Hub → ℕ → ℕ → TruthAnswer
+unfolding buttonQueryRefusal buttonPlace pressedAt
+pressedByName h p n = truthBy (buttonQueryRefusal (h .pads) p n) (pressedAt h (buttonPlace h p n))
+
+unfoldable pub connectedOf : Hub → ℕ → TruthAnswer
+unfolding standsOf
+connectedOf h p = truthBy (padRefusal h p) (getD (h .connected) p false)
+
+-- ---- value
+
+abbrev pub valueBy : ℕ → Bool → Float → ValueAnswer
+valueBy zero true v = valueAnswer.Value v
+valueBy zero false v = valueAnswer.Absent
+valueBy (suc number) here v = valueAnswer.Refused (suc number)
+
+unfoldable pub valueByCode : Hub → ℕ → ℕ → ValueAnswer
+unfolding standsOf placeOf valueAt
+valueByCode h p c = valueBy (padRefusal h p) true (valueAt h (placeIn h p c))
+
+unfoldable pub valueByName : Hub → ℕ → ℕ → ValueAnswer
+unfolding axisQueryRefusal namedOf presentNames valueAt
+valueByName h p n = valueBy (axisQueryRefusal (h .pads) p n) true (valueAt h (namedIn h p n))
+
+-- "Deadzone threshold. Axis elements only"
+unfoldable pub thresholdByCode : Hub → ℕ → ℕ → ValueAnswer
+unfolding standsOf placeOf
+thresholdByCode h p c =
+    valueBy (padRefusal h p) (eqb (kindAt h (placeIn h p c)) elementAxis) (elementAt h (placeIn h p c) .threshold)
+
+-- ---- records: one that is absent has an answer of its own
+
+abbrev pub buttonBy : ℕ → Bool → ButtonData → ButtonAnswer
+buttonBy zero true b = buttonAnswer.Data b
+buttonBy zero false b = buttonAnswer.Absent
+buttonBy (suc number) here b = buttonAnswer.Refused (suc number)
+
+unfoldable pub buttonByCode : Hub → ℕ → ℕ → ButtonAnswer
+unfolding standsOf placeOf
+buttonByCode h p c = buttonBy (padRefusal h p) (touchedAt h (placeIn h p c)) (buttonAt h (placeIn h p c))
+
+unfoldable pub buttonByName : Hub → ℕ → ℕ → ButtonAnswer
+unfolding buttonQueryRefusal namedOf presentNames
+buttonByName h p n = buttonBy (buttonQueryRefusal (h .pads) p n) (touchedAt h (namedIn h p n)) (buttonAt h (namedIn h p n))
+
+abbrev pub axisBy : ℕ → Bool → AxisData → AxisAnswer
+axisBy zero true a = axisAnswer.Data a
+axisBy zero false a = axisAnswer.Absent
+axisBy (suc number) here a = axisAnswer.Refused (suc number)
+
+unfoldable pub axisByCode : Hub → ℕ → ℕ → AxisAnswer
+unfolding standsOf placeOf
+axisByCode h p c = axisBy (padRefusal h p) (movedAt h (placeIn h p c)) (axisAt h (placeIn h p c))
+
+unfoldable pub axisByName : Hub → ℕ → ℕ → AxisAnswer
+unfolding axisQueryRefusal namedOf presentNames
+axisByName h p n = axisBy (axisQueryRefusal (h .pads) p n) (movedAt h (namedIn h p n)) (axisAt h (namedIn h p n))
+
+-- ---- names and codes
+
+abbrev pub numberBy : ℕ → Bool → ℕ → NumberAnswer
+numberBy zero true x = numberAnswer.Number x
+numberBy zero false x = numberAnswer.Absent
+numberBy (suc number) here x = numberAnswer.Refused (suc number)
+
+-- `axis_or_btn_name`
+unfoldable pub nameByCode : Hub → ℕ → ℕ → NumberAnswer
+unfolding standsOf placeOf presentNames
+nameByCode h p c = numberBy (padRefusal h p) (cond (eqb (nameIn h p (placeIn h p c)) noName) false true) (nameIn h p (placeIn h p c))
+
+-- `button_code`, `axis_code`
+unfoldable pub codeByName : Hub → ℕ → ℕ → NumberAnswer
+unfolding nameQueryRefusal namedOf presentNames
+codeByName h p n =
+    numberBy (nameQueryRefusal (h .pads) p n) (ltb (namedIn h p n) nowhere) (getD (h .codes) (namedIn h p n) 0)

@@ -1,0 +1,216 @@
+-- A step: it takes the queue's front, else the next raw record; the event passes the filters; what they queue waits; and the state is updated.
+-- Each stage is one record that copies the fields it leaves alone. Definitions only. Assumes nothing.
+use Prim.Native.Nat.{ℕ, zero, suc, _+_, _-_, _*_, _%_}
+use mathlib.Core.Bool.{Bool, true, false, cond, not, _&&_, _||_}
+use mathlib.Core.List.{List, [], _∷_, _++_}
+use lib.ListN.{length, getD, set}
+use lib.Dec.{eqb, ltb, leb}
+use lib.IntN.{pos}
+use Rattle.rules.specs.declared.Hub.{Hub}
+use Rattle.rules.specs.declared.Event.{Event}
+use Rattle.rules.specs.declared.RawRecord.{RawRecord}
+use Rattle.rules.specs.declared.RecordRead.{RecordRead}
+use Rattle.rules.specs.declared.RecordRead.the-variants as recordRead
+use Rattle.rules.specs.declared.Looked.{Looked}
+use Rattle.rules.specs.declared.Dispatched.{Dispatched}
+use Rattle.rules.specs.declared.Flags.{Flags}
+use Rattle.rules.specs.declared.Filtered.{Filtered}
+use Rattle.rules.specs.Names.{placesPerPad, flagsPerPad, partnerOf, queueRoom}
+use Rattle.rules.specs.Forms.{readRecord, kindConnected, kindDisconnected}
+use Rattle.rules.specs.Refusals.{recordRefusal}
+use Rattle.rules.specs.Places.{placeOf, presentNames, clearedOf}
+use Rattle.rules.specs.Events.{nameOf, codeOf, queuedOf}
+use Rattle.rules.specs.Dispatch.{dispatchOf, single}
+use Rattle.rules.specs.Filters.{filteredOf}
+use Rattle.rules.specs.State.{buttonAfter, axisAfter, writesButton, writesAxis}
+use Rattle.rules.specs.Hub.{placeIn, nameIn, kindAt, elementAt, buttonAt, axisAt, touchedAt, movedAt, pressedAt, frontOf, flagPlace, viewOf, queueAfter, waitingAfter}
+
+-- ---- the record looked at
+
+abbrev pub blankRecord : RawRecord
+blankRecord = record { kind = 0; pad = 0; code = 0; value = pos 0; time = 0 }
+
+abbrev pub lookedBy : RecordRead → Looked
+lookedBy (recordRead.Record r) = record { raw = r; fits = true }
+lookedBy recordRead.Malformed = record { raw = blankRecord; fits = false }
+
+-- while something waits, no record is looked at
+unfoldable pub lookedOf : ℕ → List ℕ → ℕ → Looked
+unfolding readRecord
+lookedOf waiting s at = cond (ltb 0 waiting) (record { raw = blankRecord; fits = true }) (lookedBy (readRecord s at))
+
+-- the kind of the element that has the record's code
+unfoldable pub recordKind : Hub → RawRecord → ℕ
+unfolding placeOf
+recordKind h r = kindAt h (placeIn h (r .pad) (r .code))
+
+-- the record's refusal, 0 where it is taken, or where something waits
+unfoldable pub stepRefusal : Hub → Looked → ℕ
+unfolding recordRefusal recordKind
+stepRefusal h l = cond (ltb 0 (h .waiting)) 0 (recordRefusal l (h .pads) (recordKind h (l .raw)))
+
+-- ---- what is taken: the front, else what the record gives
+
+unfoldable pub recordGives : Hub → RawRecord → ℕ → Dispatched
+unfolding dispatchOf presentNames pressedAt
+recordGives h r k =
+    dispatchOf r (nameIn h (r .pad) k) (elementAt h k) (pressedAt h k) (h .pressed) (h .released) (h .reversed)
+
+unfoldable pub takenOf : Hub → Looked → Dispatched
+unfolding recordGives frontOf placeOf
+takenOf h l = cond (ltb 0 (h .waiting)) (single (frontOf h)) (recordGives h (l .raw) (placeIn h (l .raw .pad) (l .raw .code)))
+
+-- ---- the marks that a taken record sets: "connected but from a taken Disconnected record to the next Connected"
+
+unfoldable pub connectedAfter : List Bool → ℕ → ℕ → List Bool
+connectedAfter connected p kind =
+    cond (eqb kind kindConnected) (set connected p true) (cond (eqb kind kindDisconnected) (set connected p false) connected)
+
+-- "Connected gives fresh state and deadzone flags, and the names and hats of the registered sheet": the rename is forgotten
+unfoldable pub renamedAfter : List Bool → ℕ → ℕ → List Bool
+renamedAfter renamed p kind = cond (eqb kind kindConnected) (set renamed p false) renamed
+
+-- how many marks of a run Connected takes off
+unfoldable pub joinRun : ℕ → ℕ → ℕ
+joinRun kind n = cond (eqb kind kindConnected) n 0
+
+-- the ring's front after a step took it
+unfoldable pub headAfter : ℕ → ℕ → ℕ
+headAfter head waiting = cond (ltb 0 waiting) ((head % queueRoom + 1) % queueRoom) head
+
+unfoldable pub markedOf : Hub → RawRecord → Hub
+unfolding connectedAfter renamedAfter joinRun headAfter clearedOf
+markedOf h r =
+    record {
+      pressed = h .pressed;
+      released = h .released;
+      reversed = h .reversed;
+      filters = h .filters;
+      updates = h .updates;
+      counter = h .counter;
+      pads = h .pads;
+      counts = h .counts;
+      connected = connectedAfter (h .connected) (r .pad) (r .kind);
+      hats = h .hats;
+      converts = h .converts;
+      renamed = renamedAfter (h .renamed) (r .pad) (r .kind);
+      rehats = h .rehats;
+      reconverts = h .reconverts;
+      codes = h .codes;
+      kinds = h .kinds;
+      names = h .names;
+      renames = h .renames;
+      elements = h .elements;
+      touched = clearedOf (h .touched) (placesPerPad * r .pad) (joinRun (r .kind) placesPerPad);
+      buttons = h .buttons;
+      moved = clearedOf (h .moved) (placesPerPad * r .pad) (joinRun (r .kind) placesPerPad);
+      axes = h .axes;
+      flags = clearedOf (h .flags) (flagsPerPad * r .pad) (joinRun (r .kind) flagsPerPad);
+      queue = h .queue;
+      head = headAfter (h .head) (h .waiting);
+      waiting = h .waiting - 1;
+    }
+
+-- ---- what waits behind the event: the record's own, then the filters'
+
+unfoldable pub pushesOf : Dispatched → Filtered → List Event
+unfolding queuedOf
+pushesOf d f = cond (d .follows) (d .next ∷ queuedOf (f .gives)) (queuedOf (f .gives))
+
+unfoldable pub flagsSet : List Bool → ℕ → ℕ → Flags → List Bool
+unfolding flagPlace partnerOf
+flagsSet flags p n f = set (set flags (flagPlace p n) (f .own)) (flagPlace p (partnerOf n)) (f .partner)
+
+-- the flags of the event's axis and of its partner, and the queue
+unfoldable pub pushedOf : Hub → Event → Flags → List Event → Hub
+unfolding flagsSet nameOf queueAfter waitingAfter
+pushedOf h e f es =
+    record {
+      pressed = h .pressed;
+      released = h .released;
+      reversed = h .reversed;
+      filters = h .filters;
+      updates = h .updates;
+      counter = h .counter;
+      pads = h .pads;
+      counts = h .counts;
+      connected = h .connected;
+      hats = h .hats;
+      converts = h .converts;
+      renamed = h .renamed;
+      rehats = h .rehats;
+      reconverts = h .reconverts;
+      codes = h .codes;
+      kinds = h .kinds;
+      names = h .names;
+      renames = h .renames;
+      elements = h .elements;
+      touched = h .touched;
+      buttons = h .buttons;
+      moved = h .moved;
+      axes = h .axes;
+      flags = flagsSet (h .flags) (e .pad) (nameOf e) f;
+      queue = queueAfter (h .queue) (h .head) (h .waiting) es;
+      head = h .head;
+      waiting = waitingAfter (h .waiting) es;
+    }
+
+-- ---- the state after an event, `update`; an event of no code, or one dropped, changes nothing
+
+unfoldable pub updatedAt : Bool → Hub → Event → ℕ → Hub
+unfolding buttonAfter axisAfter writesButton writesAxis
+updatedAt on h e k =
+    record {
+      pressed = h .pressed;
+      released = h .released;
+      reversed = h .reversed;
+      filters = h .filters;
+      updates = h .updates;
+      counter = h .counter;
+      pads = h .pads;
+      counts = h .counts;
+      connected = h .connected;
+      hats = h .hats;
+      converts = h .converts;
+      renamed = h .renamed;
+      rehats = h .rehats;
+      reconverts = h .reconverts;
+      codes = h .codes;
+      kinds = h .kinds;
+      names = h .names;
+      renames = h .renames;
+      elements = h .elements;
+      touched = set (h .touched) k (touchedAt h k || (on && writesButton e));
+      buttons = set (h .buttons) k (cond on (buttonAfter e (touchedAt h k) (buttonAt h k) (h .counter)) (buttonAt h k));
+      moved = set (h .moved) k (movedAt h k || (on && writesAxis e));
+      axes = set (h .axes) k (cond on (axisAfter e (axisAt h k) (h .counter)) (axisAt h k));
+      flags = h .flags;
+      queue = h .queue;
+      head = h .head;
+      waiting = h .waiting;
+    }
+
+unfoldable pub updatedOf : Bool → Hub → Event → Hub
+unfolding updatedAt codeOf placeOf
+updatedOf on h e = updatedAt on h e (placeIn h (e .pad) (codeOf e))
+
+-- ---- the step
+
+-- what the filters make of an event
+unfoldable pub filteredIn : Hub → Event → Filtered
+unfolding filteredOf viewOf
+filteredIn h e = filteredOf (h .filters) (viewOf h e) e
+
+-- what is taken, filtered and queued: the hub before its state is updated
+unfoldable pub turnedOf : Hub → Dispatched → Hub
+unfolding pushedOf pushesOf filteredIn
+turnedOf h d = pushedOf h (d .event) (filteredIn h (d .event) .flags) (pushesOf d (filteredIn h (d .event)))
+
+-- the event that a step hands on, or Dropped
+unfoldable pub stepEvent : Hub → Looked → Event
+unfolding filteredIn markedOf takenOf
+stepEvent h l = filteredIn (markedOf h (l .raw)) (takenOf h l .event) .gives .event
+
+unfoldable pub stepHub : Hub → Looked → Hub
+unfolding updatedOf turnedOf markedOf takenOf stepEvent
+stepHub h l = updatedOf (h .updates) (turnedOf (markedOf h (l .raw)) (takenOf h l)) (stepEvent h l)
