@@ -1,12 +1,11 @@
-// The filters in their order, dpad, jitter, deadzone, as decisions on what each sees of the hub: 000's `axis_dpad_to_button`, `Jitter` and
-// `deadzone`.
+// The filters in their order, dpad, jitter, deadzone, as decisions on what each sees of the hub: 000's `Jitter` and `deadzone`, after the crate
+// `hats`.
 ghost use mathlib.Core.Path.{_≡_};
-ghost use mathlib.Core.Bool.{true, false, cond, _&&_};
+ghost use mathlib.Core.Bool.{cond};
 ghost use Prim.Native.Nat.{_≤_};
 ghost use Rattle.numbers.specs.Constants.{zero32};
-ghost use Rattle.rules.specs.Events as events;
 ghost use Rattle.rules.specs.Filters as law;
-ghost use Rattle.filters.specs.Post.{Converted, Counted, Passed, direction};
+ghost use Rattle.filters.specs.Post.{Counted, Passed};
 use numbers::Pair;
 use rules::Event;
 use rules::EventType;
@@ -15,152 +14,6 @@ use rules::Flags;
 use rules::Gives;
 use rules::View;
 use rules::Zoned;
-
-// ---- tests
-
-fn both(a: bool, b: bool) -> bool
-    ensures { λ r. ⌜ r ≡ (a && b) ⌝ }
-{
-    if a { b } else { false }
-}
-
-// ---- an event of the same pad and time, and what is queued behind one
-
-// 000's `..ev`
-fn with(e: Event, t: EventType) -> Event
-    ensures { λ r. ⌜ r ≡ events.with e t ⌝ }
-{
-    Event {
-        pad: e.pad,
-        time: e.time,
-        event: t,
-    }
-}
-
-// 000's `Event::drop`
-fn dropped(e: Event) -> Event
-    ensures { λ r. ⌜ r ≡ events.dropped e ⌝ }
-{
-    Event {
-        pad: e.pad,
-        time: e.time,
-        event: EventType::Dropped,
-    }
-}
-
-fn alone(e: Event) -> Gives
-    ensures { λ r. ⌜ r ≡ events.alone e ⌝ }
-{
-    Gives {
-        event: e,
-        count: 0,
-        queued: [e, e, e, e],
-    }
-}
-
-fn followed(e: Event, a: Event) -> Gives
-    ensures { λ r. ⌜ r ≡ events.followed e a ⌝ }
-{
-    Gives {
-        event: e,
-        count: 1,
-        queued: [a, a, a, a],
-    }
-}
-
-fn followed_by_three(e: Event, a: Event, b: Event, c: Event) -> Gives
-    ensures { λ r. ⌜ r ≡ events.followedByThree e a b c ⌝ }
-{
-    Gives {
-        event: e,
-        count: 3,
-        queued: [a, b, c, c],
-    }
-}
-
-// ---- dpad
-
-// A direction is pressed; an opposite that is still held is released before it.
-fn toward(e: Event, held: bool, name: u8, code: u32, othername: u8, othercode: u32) -> Gives
-    ensures { λ r. ⌜ r ≡ law.hatBy true false false held e (direction name code) (direction othername othercode) ⌝ }
-{
-    let press = with(e, EventType::Pressed(name, code));
-    let reads = with(e, EventType::Changed(name, code, 1.0));
-    if held {
-        let release = with(e, EventType::Released(othername, othercode));
-        let rests = with(e, EventType::Changed(othername, othercode, 0.0));
-        followed_by_three(release, reads, press, rests)
-    } else {
-        followed(press, reads)
-    }
-}
-
-// The hat rests: both directions are released where they are held, the negative one last queued and first sent.
-fn centred(
-    e: Event,
-    positive: bool,
-    negative: bool,
-    name: u8,
-    code: u32,
-    othername: u8,
-    othercode: u32,
-) -> Gives
-    ensures { λ r. ⌜ r ≡ law.hatBy false false positive negative e (direction name code) (direction othername othercode) ⌝ }
-{
-    let release = with(e, EventType::Released(name, code));
-    let rests = with(e, EventType::Changed(name, code, 0.0));
-    let otherrelease = with(e, EventType::Released(othername, othercode));
-    let otherrests = with(e, EventType::Changed(othername, othercode, 0.0));
-    if positive {
-        if negative {
-            return followed_by_three(otherrelease, rests, release, otherrests);
-        }
-        return followed(release, rests);
-    }
-    if negative {
-        return followed(otherrelease, otherrests);
-    }
-    alone(dropped(e))
-}
-
-// "Only exactly 1.0 and -1.0 press."
-fn hat(v: View, e: Event, n: u8, x: f32) -> Gives
-    ensures { λ r. ⌜ r ≡ law.hatGives v e n x ⌝ }
-{
-    let name = names::positive_name(n);
-    let code = names::positive_code(n);
-    let othername = names::negative_name(n);
-    let othercode = names::negative_code(n);
-    if x == 1.0 {
-        return toward(e, v.negative, name, code, othername, othercode);
-    }
-    if x == -1.0 {
-        return toward(e, v.positive, othername, othercode, name, code);
-    }
-    centred(e, v.positive, v.negative, name, code, othername, othercode)
-}
-
-// 000's `axis_dpad_to_button`
-pub fn dpad(v: View, e: Event) -> Gives
-    ensures { λ r. ⌜ Converted v e r ⌝ }
-{
-    let t = e.event;
-    match t {
-        EventType::Axis(n, _, x) => {
-            if both(v.converts, names::is_hat(n)) {
-                return hat(v, e, n, x);
-            }
-            alone(e)
-        }
-        EventType::Pressed(_, _) => alone(e),
-        EventType::Released(_, _) => alone(e),
-        EventType::Repeated(_, _) => alone(e),
-        EventType::Changed(_, _, _) => alone(e),
-        EventType::Connected => alone(e),
-        EventType::Disconnected => alone(e),
-        EventType::Dropped => alone(e),
-    }
-}
 
 // ---- jitter
 
@@ -171,8 +24,8 @@ pub fn jittered(v: View, e: Event) -> Event
     let t = e.event;
     match t {
         EventType::Axis(_, _, x) => {
-            if both(v.stored, scale::jitters(x, v.stick)) {
-                return dropped(e);
+            if hats::both(v.stored, scale::jitters(x, v.stick)) {
+                return hats::dropped(e);
             }
             e
         }
@@ -205,7 +58,11 @@ fn passes(v: View, e: Event) -> Zoned
 fn unless(same: bool, e: Event, t: EventType) -> Event
     ensures { λ r. ⌜ r ≡ law.unless same e t ⌝ }
 {
-    if same { dropped(e) } else { with(e, t) }
+    if same {
+        hats::dropped(e)
+    } else {
+        hats::with(e, t)
+    }
 }
 
 // "the partner read from the state"; an axis with no partner has 0.0 beside it
@@ -221,11 +78,11 @@ fn clears_partner(v: View, pair: Pair) -> bool
 {
     let p = v.partner;
     let f = v.flags;
-    both(
+    hats::both(
         p.stands,
-        both(
+        hats::both(
             pair.x == 0.0,
-            both(pair.y == 0.0, both(f.partner, p.value != 0.0)),
+            hats::both(pair.y == 0.0, hats::both(f.partner, p.value != 0.0)),
         ),
     )
 }
@@ -247,14 +104,14 @@ fn stick(v: View, e: Event, n: u8, c: u32, pair: Pair) -> Zoned
     let same = v.own == x;
     let clears = clears_partner(v, pair);
     let sent = unless(same, e, EventType::Axis(n, c, x));
-    let clearing = with(e, EventType::Axis(names::partner_of(n), p.code, 0.0));
+    let clearing = hats::with(e, EventType::Axis(names::partner_of(n), p.code, 0.0));
     Zoned {
         event: sent,
         clears: clears,
         clearing: clearing,
         flags: Flags {
             own: own_flag(same, f.own, x != 0.0),
-            partner: both(f.partner, !clears),
+            partner: hats::both(f.partner, !clears),
         },
     }
 }
@@ -324,14 +181,14 @@ pub fn filtered(on: bool, v: View, e: Event) -> Filtered
     ensures { λ r. ⌜ Passed on v e r ⌝ }
 {
     if on {
-        let g = dpad(v, e);
+        let g = hats::dpad(v, e);
         let sent = g.event;
         let z = deadzoned(v, jittered(v, sent));
         return joined(g, z);
     }
     let flags = v.flags;
     Filtered {
-        gives: alone(e),
+        gives: hats::alone(e),
         flags: flags,
     }
 }

@@ -1,8 +1,8 @@
 -- `toward` meets its contract: the two clauses of `hatBy` for a value at an end, by whether the opposite is held. Assumes nothing.
 use borrow.Author.Needs.{needs}
 use Rattle.rules.specs.Filters.{hatBy}
-use Rattle.filters.proofs.toward.Statement.{statement}
-use Rattle.filters.proofs.toward.Tie as tie
+use Rattle.hats.proofs.toward.Statement.{statement}
+use Rattle.hats.proofs.toward.Tie as tie
 
 with-requires : tie.Need-with-requires
 with-requires c κs = search needs

@@ -5,18 +5,10 @@ use mathlib.Core.Bool.{Bool, true, false}
 use Prim.Native.Nat.{ℕ}
 use lib.Ieee.{Float, eq, neg, ofBits}
 use Rattle.numbers.specs.Constants.{one32, minusOne32}
-use Rattle.rules.specs.Names.{positiveName, negativeName, positiveCode, negativeCode}
 use Rattle.rules.specs.declared.Event.{Event}
 use Rattle.rules.specs.declared.View.{View}
 use Rattle.rules.specs.Filters.{Direction, hatBy, hatGives}
-use Rattle.filters.specs.Post.{direction}
-
--- the directions of a hat's axis
-abbrev pub plus : ℕ → Direction
-plus n = direction (positiveName n) (positiveCode n)
-
-abbrev pub minus : ℕ → Direction
-minus n = direction (negativeName n) (negativeCode n)
+use Rattle.hats.specs.Post.{plus, minus}
 
 toward-plus : (m p held : Bool) (e : Event) (a b : Direction) → hatBy true false false held e a b ≡ hatBy true m p held e a b
 unfolding hatBy

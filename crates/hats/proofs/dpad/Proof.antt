@@ -2,9 +2,9 @@
 -- Assumes nothing.
 use borrow.Author.Needs.{needs}
 use Rattle.rules.specs.Filters.{dpadOf}
-use Rattle.filters.proofs.Counts.{converted}
-use Rattle.filters.proofs.dpad.Statement.{statement}
-use Rattle.filters.proofs.dpad.Tie as tie
+use Rattle.hats.specs.Counts.{converted}
+use Rattle.hats.proofs.dpad.Statement.{statement}
+use Rattle.hats.proofs.dpad.Tie as tie
 
 enum-known-t : tie.Need-enum-known-t
 enum-known-t c = search needs

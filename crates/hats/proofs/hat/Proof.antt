@@ -1,8 +1,8 @@
 -- `hat` meets its contract: what `toward` and `centred` ensure, at the names and codes of the axis, is what the law book gives there (`Hats`). Assumes nothing.
 use borrow.Author.Needs.{needs}
-use Rattle.filters.proofs.Hats.{at-plus, at-minus, at-rest}
-use Rattle.filters.proofs.hat.Statement.{statement}
-use Rattle.filters.proofs.hat.Tie as tie
+use Rattle.hats.proofs.Hats.{at-plus, at-minus, at-rest}
+use Rattle.hats.proofs.hat.Statement.{statement}
+use Rattle.hats.proofs.hat.Tie as tie
 
 positive-name-requires : tie.Need-positive-name-requires
 positive-name-requires c κs = search needs

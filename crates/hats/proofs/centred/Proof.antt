@@ -1,8 +1,8 @@
 -- `centred` meets its contract: the four clauses of `hatBy` for a value between the ends, by which directions are held. Assumes nothing.
 use borrow.Author.Needs.{needs}
 use Rattle.rules.specs.Filters.{hatBy}
-use Rattle.filters.proofs.centred.Statement.{statement}
-use Rattle.filters.proofs.centred.Tie as tie
+use Rattle.hats.proofs.centred.Statement.{statement}
+use Rattle.hats.proofs.centred.Tie as tie
 
 with-requires : tie.Need-with-requires
 with-requires c κs = search needs
