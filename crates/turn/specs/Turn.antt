@@ -6,17 +6,32 @@ use mathlib.Core.Bool.{Bool, true, false, cond}
 use mathlib.Core.List.{List, [], _∷_, map}
 use native.Mathlib.Numerals.{add-one}
 use native.Mathlib.Omega.{arith}
+use lib.Dec.{ltb}
+use lib.Ieee.{Float}
 use lib.ListN.{length, length-map, getD, take, drop}
 use Rattle.rules.specs.declared.Event.{Event}
+use Rattle.rules.specs.declared.Slot.{Slot}
+use Rattle.rules.specs.declared.RawRecord.{RawRecord}
+use Rattle.rules.specs.declared.Element.{Element}
+use Rattle.rules.specs.declared.ButtonData.{ButtonData}
 use Rattle.rules.specs.declared.Dispatched.{Dispatched}
 use Rattle.rules.specs.declared.Gives.{Gives}
-use Rattle.rules.specs.Events.{queuedOf}
+use Rattle.rules.specs.Events.{eventOf, queuedOf}
+use Rattle.rules.specs.State.{readPressed}
+use Rattle.rules.specs.Dispatch.{dispatchOf, single}
 use Rattle.rules.specs.Step.{pushesOf}
+use Rattle.gather.specs.declared.Found.{Found}
 use Rattle.turn.specs.declared.Pushes.{Pushes}
 
 pub record RingIs (place r : ℕ) : Type 0 where
   pub is : r ≡ place
   pub small : r < 64
+
+-- the queue's front, else what the record gives
+unfoldable pub takenBy : ℕ → Slot → RawRecord → Found → Element → ButtonData → Float → Float → Bool → Dispatched
+takenBy waiting slot r found e b pressed released reversed =
+    cond (ltb 0 waiting) (single (eventOf slot))
+    (dispatchOf r (found .name) e (readPressed (found .touched) b) pressed released reversed)
 
 -- the events of an array from one place up to another
 abbrev pub part : List Event → ℕ → ℕ → List Event

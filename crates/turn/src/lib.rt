@@ -9,7 +9,7 @@ ghost use Rattle.rules.specs.Hub.{longerOf, slotAt};
 ghost use Rattle.rules.specs.Step.{connectedAfter, renamedAfter, joinRun, headAfter};
 ghost use Rattle.rules.specs.Pump.{stopOf, stopAnswer, placeAfter};
 ghost use Rattle.rules.specs.State.{buttonAfter, axisAfter};
-ghost use Rattle.turn.specs.Turn.{PushesIs, RingIs};
+ghost use Rattle.turn.specs.Turn.{PushesIs, RingIs, takenBy};
 use gather::Found;
 use rules::AxisData;
 use rules::ButtonData;
@@ -84,6 +84,35 @@ pub fn refusal(waiting: u8, l: Looked, pads: u8, kind: u8) -> u8
     ensures { λ r. ⌜ r ≡ cond (ltb 0 waiting) 0 (recordRefusal l pads kind) ⌝ }
 {
     chosen(0 < waiting, 0, refusals::record_refusal(l, pads, kind))
+}
+
+// ---- what is taken
+
+// The queue's front, else what the record gives: `found` and `b` are of the record's code.
+pub fn take(
+    waiting: u8,
+    slot: Slot,
+    raw: RawRecord,
+    found: Found,
+    element: Element,
+    b: ButtonData,
+    pressed: f32,
+    released: f32,
+    reversed: bool,
+) -> Dispatched
+    requires { ⌜ withinOf (raw .value) ≡ true ⌝ }
+    ensures { λ r. ⌜ r ≡ takenBy waiting slot raw found element b pressed released reversed ⌝ }
+{
+    if 0 < waiting {
+        let e = events::event_of(slot);
+        return Dispatched {
+            event: e,
+            follows: false,
+            next: e,
+        };
+    }
+    let held = state::read_pressed(found.touched, b);
+    dispatch::dispatch(raw, found.name, element, held, pressed, released, reversed)
 }
 
 // ---- the marks of a taken record
