@@ -8,7 +8,7 @@ use native.Mathlib.Omega.{arith}
 use lib.Dec.{T, eqb}
 use borrow.Author.Tests.{le-leb, lt-leb, eq-eqb, ne-eqb, le-ltb}
 use lib.Pow.{pow-pos}
-use lib.Ieee.{Float, nan, inf, fin, binary32, up, down, odd, ofFields, ofBits, nanBits, div}
+use lib.Ieee.{Float, nan, inf, fin, binary32, up, down, odd, ofFields, ofBits, nanBits, div, ne, eq, isNan}
 use lib.Ieee.Bits.{nanBits-above}
 use lib.Ieee.Exact.{HasValue, odd-sign}
 use lib.Ieee.Fits.{down-pos}
@@ -179,3 +179,10 @@ packed-number k q h n =
 pub no-number : div binary32 (ofBits binary32 0) (ofBits binary32 0) ≡ nan
 unfolding div ofBits
 no-number = refl
+
+-- what equals itself is no NaN
+pub no-nan : (x : Float) → ne x x ≡ false → T (not (isNan x))
+unfolding isNan ne eq
+no-nan nan h = let z : _≡_ {A = ℕ} 0 1 = cc in omega arith
+no-nan (inf s) h = tt
+no-nan (fin s m e) h = tt

@@ -1,5 +1,7 @@
 ghost use mathlib.Core.Path.{_≡_};
 ghost use Prim.Native.Nat.{_+_, _-_, _*_, _/_, _%_, _≤_, _<_, _^_};
+ghost use lib.Ieee as Ieee;
+ghost use lib.Ieee.{binary32};
 ghost use Rattle.numbers.specs.Clamp.{clampOf};
 ghost use Rattle.numbers.specs.Root.{near, rootUnits, sqrtOf, magnitudeOf};
 ghost use Rattle.binary32.specs.WholeRoot.{Floor};
@@ -15,6 +17,29 @@ const SIGNIFICANDS: u64 = 0x100_0000;
 const MINUS: u32 = 0x8000_0000;
 // the bits of +∞, the first pattern after those of the finite numbers
 const INFINITY: u32 = 0x7f80_0000;
+
+// the bits that stand for a NaN
+const NAN: u32 = 0x7fc0_0000;
+
+// the value with these bits: every NaN pattern is the one NaN
+pub fn of_bits(bits: u32) -> f32
+    ensures { λ r. ⌜ r ≡ Ieee.ofBits binary32 bits ⌝ }
+{
+    if INFINITY < bits % MINUS {
+        return 0.0 / 0.0;
+    }
+    f32::from_bits(bits)
+}
+
+// the bits of a value: 0x7fc00000 for a NaN, whose own are not known
+pub fn bits_of(x: f32) -> u32
+    ensures { λ r. ⌜ r ≡ Ieee.toBits binary32 x ⌝ }
+{
+    if x != x {
+        return NAN;
+    }
+    f32::to_bits(x)
+}
 
 // 000's `utils::clamp`
 pub fn clamp(x: f32, lo: f32, hi: f32) -> f32
@@ -37,7 +62,7 @@ fn closer(w: u64, s: u64) -> u64
     (s + w / s) / 2
 }
 
-// the whole part of the root of a number below 2^48: from above, at most 5 divisions for a w from 2^46 on
+// the whole part of the root of a number below 2^48, by Newton's steps from above
 fn floor_root(w: u64) -> u64
     requires { ⌜ (0 < w) × (w < 2 ^ 48) ⌝ }
     ensures { λ r. ⌜ Floor w r ⌝ }

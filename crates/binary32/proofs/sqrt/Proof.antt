@@ -1,26 +1,19 @@
 -- `sqrt` meets its contract: by the bits, each way through the code is one clause of `sqrtOf`. Assumes nothing.
 use mathlib.Core.Path.{_≡_, sym, ap, _∙_, subst}
-use mathlib.Core.Bool.{false, not}
-use Prim.Native.Nat.{ℕ, _<_}
+use Prim.Native.Nat.{_<_}
 use native.Mathlib.Omega.{arith}
 use lib.Dec.{T}
-use lib.Ieee.{Float, nan, inf, fin, binary32, toBits, ofBits, ne, eq, isNan, fits}
+use lib.Ieee.{Float, nan, binary32, toBits, ofBits, fits}
 use lib.Ieee.Compare.{differs-from-itself}
 use lib.Ieee.Bits.{ofBits-toBits, toBits-lt}
 use borrow.Author.Needs.{needs}
 use Rattle.numbers.specs.Root.{sqrtOf}
-use Rattle.binary32.specs.Patterns.{at-zeros, at-minus, at-top, at-plus, no-number}
+use Rattle.binary32.specs.Patterns.{no-nan, at-zeros, at-minus, at-top, at-plus, no-number}
 use Rattle.binary32.proofs.sqrt.Statement.{statement}
 use Rattle.binary32.proofs.sqrt.Tie as tie
 use Rattle.binary32.proofs.sqrt.Reads as reads
 use Rattle.binary32.proofs.sqrt.Lts as lts
 use Rattle.binary32.proofs.positive.Reads as positive-reads
-
-no-nan : (x : Float) → ne x x ≡ false → T (not (isNan x))
-unfolding isNan ne eq
-no-nan nan h = let z : _≡_ {A = ℕ} 0 1 = cc in omega arith
-no-nan (inf s) h = tt
-no-nan (fin s m e) h = tt
 
 nan-root : (x : Float) → x ≡ nan → x ≡ sqrtOf x
 unfolding sqrtOf
