@@ -1,5 +1,7 @@
 // Pad sheets and rename lists read from lent bytes: the sheet's hats and elements, or the refusals 3, 4 and 5 in that order.
 use names::NO_NAME;
+use refusals::first;
+use refusals::unless_fits;
 use rules::SheetElement;
 use rules::SheetRead;
 ghost use mathlib.Core.Path.{_≡_};
@@ -234,16 +236,13 @@ pub fn sheet_refusal(s: &[u8]) -> u8
         return 3;
     }
     let count = s[4] as usize;
-    if LAST_HATS < s[3] {
-        return 4;
-    }
-    if !elements_fit(s, count) {
-        return 4;
-    }
-    if stands_twice(s, SHEET_OPENING + NAME_OFFSET, ELEMENT_SIZE, count) {
-        return 5;
-    }
-    0
+    let hats = unless_fits(!(LAST_HATS < s[3]), 4);
+    let rules = unless_fits(elements_fit(s, count), 4);
+    let names = unless_fits(
+        !stands_twice(s, SHEET_OPENING + NAME_OFFSET, ELEMENT_SIZE, count),
+        5,
+    );
+    first(hats, first(rules, names))
 }
 
 pub fn read_sheet(s: &[u8]) -> SheetRead
@@ -278,11 +277,7 @@ pub fn rename_list_refusal(s: &[u8], count: u8) -> u8
     if s.len() != count as usize {
         return 3;
     }
-    if !names_fit(s) {
-        return 4;
-    }
-    if stands_twice(s, 0, 1, count as usize) {
-        return 5;
-    }
-    0
+    let allowed = unless_fits(names_fit(s), 4);
+    let once = unless_fits(!stands_twice(s, 0, 1, count as usize), 5);
+    first(allowed, once)
 }

@@ -1,16 +1,11 @@
--- `sheets::rename_list_refusal` meets its contract: the tests are the definition's, in its order. Assumes nothing.
+-- `sheets::rename_list_refusal` meets its contract: `in-order` has the order. Assumes nothing.
 use borrow.Author.Needs.{needs}
-use mathlib.Core.Path.{_≡_, sym, _∙_, ap}
-use Prim.Native.Nat.{ℕ, _<_}
-use native.Mathlib.Omega.{arith}
-use borrow.Author.Tests.{eq-eqb, ne-eqb, not-true, not-false}
-use Rattle.rules.specs.Sheets.{namesFit, renameListRefusal}
+use mathlib.Core.Bool.{false}
+use borrow.Author.Tests.{eq-eqb, ne-eqb}
+use Rattle.rules.specs.Sheets.{namesFit, standsTwice, renameListRefusal}
+use Rattle.sheets.proofs.Order.{in-order}
 use Rattle.sheets.proofs.rename_list_refusal.Statement.{statement}
 use Rattle.sheets.proofs.rename_list_refusal.Tie as tie
-
-named : (c : tie.After-names-fit) → namesFit (c .before .before .before .args .s .now) (c .before .before .before .args .count) 0 ≡ c .names-fit .result
-named c =
-    ap (λ (n : ℕ). namesFit (c .before .before .before .args .s .now) n 0) (sym (c .before .if1 .left)) ∙ sym (c .names-fit .ensures)
 
 returns : tie.Need-returns
 unfolding renameListRefusal
@@ -19,23 +14,42 @@ returns c = rw (ne-eqb _ _ (c .if1 .taken))
 names-fit-requires : tie.Need-names-fit-requires
 names-fit-requires c κs = search needs
 
+unless-fits-requires : tie.Need-unless-fits-requires
+unless-fits-requires c κs = search needs
+
+stands-twice-requires : tie.Need-stands-twice-requires
+stands-twice-requires c κs = search needs
+
+unless-fits-requires-2 : tie.Need-unless-fits-requires-2
+unless-fits-requires-2 c κs = search needs
+
+first-requires : tie.Need-first-requires
+first-requires c κs = search needs
+
 returns-2 : tie.Need-returns-2
 unfolding renameListRefusal
 returns-2 c =
-    rw (eq-eqb _ _ (c .before .before .if1 .left), named (c .before) ∙ not-true _ (c .if2 .taken))
-
-stands-twice-requires : tie.Need-stands-twice-requires
-stands-twice-requires c κs = record { there = λ (i : ℕ) (h : i < c .before .before .before .before .args .count). omega arith }
-
-returns-3 : tie.Need-returns-3
-unfolding renameListRefusal
-returns-3 c = rw (eq-eqb _ _ (c .before .before .before .before .if1 .left), named (c .before .before .before) ∙ not-false _ (c .before .before .if2 .left), sym (c .before .stands-twice .ensures) ∙ c .if3 .taken)
-
-returns-4 : tie.Need-returns-4
-unfolding renameListRefusal
-returns-4 c = rw (eq-eqb _ _ (c .before .before .before .before .if1 .left), named (c .before .before .before) ∙ not-false _ (c .before .before .if2 .left), sym (c .before .stands-twice .ensures) ∙ c .if3 .left)
+    let s = c .before .before .before .before .before .before .before .args .s .now in
+    let count = c .before .before .before .before .before .before .before .args .count in
+    rw (
+      eq-eqb _ _ (c .before .before .before .before .before .if1 .left),
+      c .first .ensures,
+      c .before .before .before .unless-fits .ensures,
+      c .before .before .before .before .names-fit .ensures,
+      c .before .before .before .before .before .if1 .left,
+      c .before .unless-fits2 .ensures,
+      c .before .before .stands-twice .ensures,
+    )
+    (in-order false (namesFit s count 0) (standsTwice s 0 1 count 0))
 
 pub rename-list-refusal-spec : {M : Type 1} → statement M
 rename-list-refusal-spec =
     tie.close
-    (tie.spec returns names-fit-requires returns-2 stands-twice-requires returns-3 returns-4)
+    (tie.spec
+    returns
+    names-fit-requires
+    unless-fits-requires
+    stands-twice-requires
+    unless-fits-requires-2
+    first-requires
+    returns-2)

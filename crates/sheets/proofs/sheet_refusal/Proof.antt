@@ -1,13 +1,15 @@
--- `sheets::sheet_refusal` meets its contract: the tests are the definition's, in its order, and a size that fits has the elements' bytes. Assumes nothing.
+-- `sheets::sheet_refusal` meets its contract: a size that fits has the elements' bytes, and `in-order` has the order. Assumes nothing.
 use borrow.Author.Needs.{needs}
 use mathlib.Core.Path.{_≡_, sym, _∙_}
 use mathlib.Core.Bool.{true}
 use Prim.Native.Nat.{ℕ, _+_, _*_, _<_}
 use native.Mathlib.Omega.{arith}
 use lib.ListN.{length, getD}
-use borrow.Author.Tests.{lt-ltb, le-ltb, not-true, not-false}
-use Rattle.rules.specs.Sheets.{sheetFits, hatsOf, countOf, sheetRefusal}
+use lib.Dec.{ltb}
+use borrow.Author.Tests.{not-true, not-false}
+use Rattle.rules.specs.Sheets.{sheetFits, hatsOf, countOf, elementsFit, standsTwice, sheetRefusal}
 use Rattle.sheets.specs.Laws.{sheet-size}
+use Rattle.sheets.proofs.Order.{in-order}
 use Rattle.sheets.proofs.sheet_refusal.Statement.{statement}
 use Rattle.sheets.proofs.sheet_refusal.Tie as tie
 
@@ -31,19 +33,17 @@ shared-slice-read-count c = let z = sized (c .before) in omega arith
 cast-count : tie.Need-cast-count
 cast-count c = omega (arith, c .shared-slice-known2 .given 4)
 
-shared-slice-read-if2 : tie.Need-shared-slice-read-if2
-shared-slice-read-if2 c = let z = sized (c .before .before) in omega arith
+shared-slice-read-unless-fits : tie.Need-shared-slice-read-unless-fits
+shared-slice-read-unless-fits c = let z = sized (c .before .before) in omega arith
 
-returns-2 : tie.Need-returns-2
-unfolding sheetRefusal hatsOf countOf
-returns-2 c = rw (fits (c .before .before .before), lt-ltb _ _ (c .if2 .taken))
+unless-fits-requires : tie.Need-unless-fits-requires
+unless-fits-requires c κs = search needs
 
 elements-fit-requires : tie.Need-elements-fit-requires
 elements-fit-requires c κs = let z = sized (c .before .before .before) in omega arith
 
-returns-3 : tie.Need-returns-3
-unfolding sheetRefusal hatsOf countOf
-returns-3 c = rw (fits (c .before .before .before .before .before), le-ltb _ _ (c .before .before .if2 .left), sym (c .before .elements-fit .ensures) ∙ not-true _ (c .if3 .taken))
+unless-fits-requires-2 : tie.Need-unless-fits-requires-2
+unless-fits-requires-2 c κs = search needs
 
 add-stands-twice : tie.Need-add-stands-twice
 add-stands-twice c = search needs
@@ -54,13 +54,30 @@ stands-twice-requires c κs =
     let z = sized (c .before .before .before .before .before) in
     record { there = λ (i : ℕ) (h : i < getD s 4 0). omega arith }
 
-returns-4 : tie.Need-returns-4
-unfolding sheetRefusal hatsOf countOf
-returns-4 c = rw (fits (c .before .before .before .before .before .before .before), le-ltb _ _ (c .before .before .before .before .if2 .left), sym (c .before .before .before .elements-fit .ensures) ∙ not-false _ (c .before .before .if3 .left), sym (c .before .stands-twice .ensures) ∙ c .if4 .taken)
+unless-fits-requires-3 : tie.Need-unless-fits-requires-3
+unless-fits-requires-3 c κs = search needs
 
-returns-5 : tie.Need-returns-5
+first-requires : tie.Need-first-requires
+first-requires c κs = search needs
+
+first-requires-2 : tie.Need-first-requires-2
+first-requires-2 c κs = search needs
+
+returns-2 : tie.Need-returns-2
 unfolding sheetRefusal hatsOf countOf
-returns-5 c = rw (fits (c .before .before .before .before .before .before .before), le-ltb _ _ (c .before .before .before .before .if2 .left), sym (c .before .before .before .elements-fit .ensures) ∙ not-false _ (c .before .before .if3 .left), sym (c .before .stands-twice .ensures) ∙ c .if4 .left)
+returns-2 c =
+    let s = c .before .before .before .before .before .before .before .before .before .before .before .before .args .s .now in
+    rw (
+      fits (c .before .before .before .before .before .before .before .before .before),
+      c .first2 .ensures,
+      c .before .first .ensures,
+      c .before .before .before .before .before .before .unless-fits .ensures,
+      c .before .before .before .before .unless-fits2 .ensures,
+      c .before .before .before .before .before .elements-fit .ensures,
+      c .before .before .unless-fits3 .ensures,
+      c .before .before .before .stands-twice .ensures,
+    )
+    (in-order (ltb 15 (getD s 3 0)) (elementsFit s (getD s 4 0) 0) (standsTwice s 10 18 (getD s 4 0) 0))
 
 pub sheet-refusal-spec : {M : Type 1} → statement M
 sheet-refusal-spec =
@@ -70,11 +87,13 @@ sheet-refusal-spec =
     returns
     shared-slice-read-count
     cast-count
-    shared-slice-read-if2
-    returns-2
+    shared-slice-read-unless-fits
+    unless-fits-requires
     elements-fit-requires
-    returns-3
+    unless-fits-requires-2
     add-stands-twice
     stands-twice-requires
-    returns-4
-    returns-5)
+    unless-fits-requires-3
+    first-requires
+    first-requires-2
+    returns-2)
