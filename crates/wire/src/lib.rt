@@ -7,14 +7,17 @@ use names::NO_NAME;
 use rules::Event;
 use rules::EventForm;
 use rules::EventRead;
+use rules::Looked;
 use rules::RawRecord;
 use rules::RecordRead;
 ghost use mathlib.Core.Path.{_≡_};
 ghost use mathlib.Core.List.{_++_};
 ghost use Prim.Native.Nat.{_+_, _≤_, _<_, _^_};
 ghost use lib.ListN.{length, drop};
-ghost use Rattle.rules.specs.Forms.{fieldOf, signedOf, opens, recordKindFits, recordFields, readRecord, nameFits, eventKindFits, eventFields, readEvent, formBytes};
+ghost use Rattle.rules.specs.Forms.{fieldOf, signedOf, opens, recordKindFits, recordFields, readRecord, nameFits, eventKindFits, eventFields, readEvent};
 ghost use Rattle.rules.specs.Events.{eventBytes};
+ghost use Rattle.rules.specs.Step.{lookedOf};
+ghost use Rattle.wire.specs.Bytes.{writtenOf};
 ghost use Rattle.rules.specs.Refusals.{valueFits, timeFits};
 
 // ---- sizes, kinds and limits
@@ -245,4 +248,83 @@ pub fn time_fits(time: u64) -> bool
     ensures { λ r. ⌜ r ≡ timeFits time ⌝ }
 {
     time <= LAST_TIME
+}
+
+// ---- an event written
+
+// A form's 22 bytes.
+fn form_bytes(f: EventForm) -> [u8; 22]
+    ensures { λ r. ⌜ r ≡ writtenOf f ⌝ }
+{
+    let c = f.code;
+    let b = f.bits;
+    let t = f.time;
+    [
+        0,
+        20,
+        1,
+        f.kind,
+        f.pad,
+        f.name,
+        (c / 0x100_0000 % 256) as u8,
+        (c / 0x1_0000 % 256) as u8,
+        (c / 0x100 % 256) as u8,
+        (c % 256) as u8,
+        (b / 0x100_0000 % 256) as u8,
+        (b / 0x1_0000 % 256) as u8,
+        (b / 0x100 % 256) as u8,
+        (b % 256) as u8,
+        (t / 0x100_0000_0000_0000 % 256) as u8,
+        (t / 0x1_0000_0000_0000 % 256) as u8,
+        (t / 0x100_0000_0000 % 256) as u8,
+        (t / 0x1_0000_0000 % 256) as u8,
+        (t / 0x100_0000 % 256) as u8,
+        (t / 0x1_0000 % 256) as u8,
+        (t / 0x100 % 256) as u8,
+        (t % 256) as u8,
+    ]
+}
+
+// One event at the start of the part that is lent; the bytes after it stay. The pump lends "the out buffer's part starting at 22 times the
+// events already written".
+pub fn write_event(out: &mut [u8], e: Event)
+    requires { ⌜ 22 ≤ length (now out) ⌝ }
+    ensures { λ _. ⌜ now (out .exit) ≡ eventBytes e ++ drop 22 (now (out .entry)) ⌝ }
+{
+    let form = events::form_of(e);
+    let bytes = form_bytes(form);
+    let mut i: usize = 0;
+    while i < EVENT_SIZE {
+        out[i] = bytes[i];
+        i += 1;
+    }
+}
+
+// ---- the record that a step looks at
+
+// Where events wait a step takes the queue's front and looks at no record; a malformed record is shown as a blank one that does not fit.
+pub fn look(s: &[u8], at: usize, waiting: u8) -> Looked
+    ensures { λ r. ⌜ r ≡ lookedOf waiting (now (s .entry)) at ⌝ }
+{
+    let blank = RawRecord {
+        kind: 0,
+        pad: 0,
+        code: 0,
+        value: 0,
+        time: 0,
+    };
+    if 0 < waiting {
+        return Looked {
+            raw: blank,
+            fits: true,
+        };
+    }
+    let read = read_record(s, at);
+    match read {
+        RecordRead::Record(raw) => Looked { raw, fits: true },
+        RecordRead::Malformed => Looked {
+            raw: blank,
+            fits: false,
+        },
+    }
 }
