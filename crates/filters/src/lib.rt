@@ -89,7 +89,15 @@ fn toward(e: Event, held: bool, name: u8, code: u32, othername: u8, othercode: u
 }
 
 // The hat rests: both directions are released where they are held, the negative one last queued and first sent.
-fn centred(e: Event, positive: bool, negative: bool, name: u8, code: u32, othername: u8, othercode: u32) -> Gives
+fn centred(
+    e: Event,
+    positive: bool,
+    negative: bool,
+    name: u8,
+    code: u32,
+    othername: u8,
+    othercode: u32,
+) -> Gives
     ensures { λ r. ⌜ r ≡ law.hatBy false false positive negative e (direction name code) (direction othername othercode) ⌝ }
 {
     let release = with(e, EventType::Released(name, code));

@@ -51,7 +51,6 @@ centred-requires c κs = search needs
 returns-3 : tie.Need-returns-3
 returns-3 c = rw (c .centred .ensures, c .before .before .before .negative-code .ensures, c .before .before .before .before .negative-name .ensures, c .before .before .before .before .before .positive-code .ensures, c .before .before .before .before .before .before .positive-name .ensures) (at-rest _ _ _ _ (c .before .before .if1 .left) (c .before .if2 .left))
 
-
 pub hat-spec : {M : Type 1} → statement M
 hat-spec =
     tie.close
