@@ -4,19 +4,16 @@ use mathlib.Core.Bool.{Bool}
 use Prim.Native.Nat.{ℕ, _≤_}
 use Rattle.rules.specs.declared.Event.{Event}
 use Rattle.rules.specs.declared.View.{View}
-use Rattle.rules.specs.declared.Gives.{Gives}
 use Rattle.rules.specs.declared.Filtered.{Filtered}
-use Rattle.rules.specs.Filters.{Direction, dpadOf, filteredOf}
+use Rattle.rules.specs.Places.{oneIf}
+use Rattle.rules.specs.Filters.{filteredOf}
 
--- a direction of a hat
-abbrev pub direction : ℕ → ℕ → Direction
-direction name code = record { name = name; code = code }
+-- 1 where the deadzone queues a clearing event
+pub record Counted (b : Bool) (r : ℕ) : Type 0 where
+  pub is : r ≡ oneIf b
+  pub small : r ≤ 1
 
--- dpad queues three events at most, so that a clearing event has room behind them
-pub record Converted (v : View) (e : Event) (r : Gives) : Type 0 where
-  pub is : r ≡ dpadOf v e
-  pub small : r .count ≤ 3
-
+-- four events at most are queued
 pub record Passed (on : Bool) (v : View) (e : Event) (r : Filtered) : Type 0 where
   pub is : r ≡ filteredOf on v e
   pub small : r .gives .count ≤ 4

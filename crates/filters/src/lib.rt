@@ -1,13 +1,11 @@
-// The filters in their order, dpad, jitter, deadzone, as decisions on what each sees of the hub: 000's `axis_dpad_to_button`, `Jitter` and
-// `deadzone`.
+// The filters in their order, dpad, jitter, deadzone, as decisions on what each sees of the hub: 000's `Jitter` and `deadzone`, after the crate
+// `hats`.
 ghost use mathlib.Core.Path.{_≡_};
-ghost use mathlib.Core.Bool.{true, false, cond, _&&_};
+ghost use mathlib.Core.Bool.{cond};
 ghost use Prim.Native.Nat.{_≤_};
-ghost use Rattle.numbers.specs.Jitter.{jitterOf};
-ghost use Rattle.rules.specs.Names.{isHat};
-ghost use Rattle.rules.specs.Events as events;
+ghost use Rattle.numbers.specs.Constants.{zero32};
 ghost use Rattle.rules.specs.Filters as law;
-ghost use Rattle.filters.specs.Post.{Converted, Passed, direction};
+ghost use Rattle.filters.specs.Post.{Counted, Passed};
 use numbers::Pair;
 use rules::Event;
 use rules::EventType;
@@ -17,162 +15,7 @@ use rules::Gives;
 use rules::View;
 use rules::Zoned;
 
-// ---- an event of the same pad and time, and what is queued behind one
-
-// 000's `..ev`
-fn with(e: Event, t: EventType) -> Event
-    ensures { λ r. ⌜ r ≡ events.with e t ⌝ }
-{
-    Event {
-        pad: e.pad,
-        time: e.time,
-        event: t,
-    }
-}
-
-// 000's `Event::drop`
-fn dropped(e: Event) -> Event
-    ensures { λ r. ⌜ r ≡ events.dropped e ⌝ }
-{
-    Event {
-        pad: e.pad,
-        time: e.time,
-        event: EventType::Dropped,
-    }
-}
-
-fn alone(e: Event) -> Gives
-    ensures { λ r. ⌜ r ≡ events.alone e ⌝ }
-{
-    Gives {
-        event: e,
-        count: 0,
-        queued: [e, e, e, e],
-    }
-}
-
-fn followed(e: Event, a: Event) -> Gives
-    ensures { λ r. ⌜ r ≡ events.followed e a ⌝ }
-{
-    Gives {
-        event: e,
-        count: 1,
-        queued: [a, a, a, a],
-    }
-}
-
-fn followed_by_three(e: Event, a: Event, b: Event, c: Event) -> Gives
-    ensures { λ r. ⌜ r ≡ events.followedByThree e a b c ⌝ }
-{
-    Gives {
-        event: e,
-        count: 3,
-        queued: [a, b, c, c],
-    }
-}
-
-// ---- dpad
-
-// A direction is pressed; an opposite that is still held is released before it.
-fn toward(e: Event, held: bool, name: u8, code: u32, othername: u8, othercode: u32) -> Gives
-    ensures { λ r. ⌜ r ≡ law.hatBy true false false held e (direction name code) (direction othername othercode) ⌝ }
-{
-    let press = with(e, EventType::Pressed(name, code));
-    let reads = with(e, EventType::Changed(name, code, 1.0));
-    if held {
-        let release = with(e, EventType::Released(othername, othercode));
-        let rests = with(e, EventType::Changed(othername, othercode, 0.0));
-        followed_by_three(release, reads, press, rests)
-    } else {
-        followed(press, reads)
-    }
-}
-
-// The hat rests: both directions are released where they are held, the negative one last queued and first sent.
-fn centred(
-    e: Event,
-    positive: bool,
-    negative: bool,
-    name: u8,
-    code: u32,
-    othername: u8,
-    othercode: u32,
-) -> Gives
-    ensures { λ r. ⌜ r ≡ law.hatBy false false positive negative e (direction name code) (direction othername othercode) ⌝ }
-{
-    let release = with(e, EventType::Released(name, code));
-    let rests = with(e, EventType::Changed(name, code, 0.0));
-    let otherrelease = with(e, EventType::Released(othername, othercode));
-    let otherrests = with(e, EventType::Changed(othername, othercode, 0.0));
-    if positive {
-        if negative {
-            return followed_by_three(otherrelease, rests, release, otherrests);
-        }
-        return followed(release, rests);
-    }
-    if negative {
-        return followed(otherrelease, otherrests);
-    }
-    alone(dropped(e))
-}
-
-// "Only exactly 1.0 and -1.0 press."
-fn hat(v: View, e: Event, n: u8, x: f32) -> Gives
-    ensures { λ r. ⌜ r ≡ law.hatGives v e n x ⌝ }
-{
-    let name = names::positive_name(n);
-    let code = names::positive_code(n);
-    let othername = names::negative_name(n);
-    let othercode = names::negative_code(n);
-    if x == 1.0 {
-        return toward(e, v.negative, name, code, othername, othercode);
-    }
-    if x == -1.0 {
-        return toward(e, v.positive, othername, othercode, name, code);
-    }
-    centred(e, v.positive, v.negative, name, code, othername, othercode)
-}
-
-fn converts_hat(converts: bool, n: u8) -> bool
-    ensures { λ r. ⌜ r ≡ (converts && isHat n) ⌝ }
-{
-    if converts { names::is_hat(n) } else { false }
-}
-
-// 000's `axis_dpad_to_button`
-pub fn dpad(v: View, e: Event) -> Gives
-    ensures { λ r. ⌜ Converted v e r ⌝ }
-{
-    let t = e.event;
-    match t {
-        EventType::Axis(n, _, x) => {
-            if converts_hat(v.converts, n) {
-                return hat(v, e, n, x);
-            }
-            alone(e)
-        }
-        EventType::Pressed(_, _) => alone(e),
-        EventType::Released(_, _) => alone(e),
-        EventType::Repeated(_, _) => alone(e),
-        EventType::Changed(_, _, _) => alone(e),
-        EventType::Connected => alone(e),
-        EventType::Disconnected => alone(e),
-        EventType::Dropped => alone(e),
-    }
-}
-
 // ---- jitter
-
-// closer than the limit to a value that is stored
-fn near_stored(stored: bool, x: f32, stick: f32) -> bool
-    ensures { λ r. ⌜ r ≡ (stored && jitterOf x stick) ⌝ }
-{
-    if stored {
-        scale::jitters(x, stick)
-    } else {
-        false
-    }
-}
 
 // 000's `Jitter`
 pub fn jittered(v: View, e: Event) -> Event
@@ -181,8 +24,8 @@ pub fn jittered(v: View, e: Event) -> Event
     let t = e.event;
     match t {
         EventType::Axis(_, _, x) => {
-            if near_stored(v.stored, x, v.stick) {
-                return dropped(e);
+            if hats::both(v.stored, scale::jitters(x, v.stick)) {
+                return hats::dropped(e);
             }
             e
         }
@@ -193,5 +36,159 @@ pub fn jittered(v: View, e: Event) -> Event
         EventType::Connected => e,
         EventType::Disconnected => e,
         EventType::Dropped => e,
+    }
+}
+
+// ---- deadzone
+
+// the filter passes an event as it is
+fn passes(v: View, e: Event) -> Zoned
+    ensures { λ r. ⌜ r ≡ law.passes v e ⌝ }
+{
+    let flags = v.flags;
+    Zoned {
+        event: e,
+        clears: false,
+        clearing: e,
+        flags: flags,
+    }
+}
+
+// dropped where the state has the value already
+fn unless(same: bool, e: Event, t: EventType) -> Event
+    ensures { λ r. ⌜ r ≡ law.unless same e t ⌝ }
+{
+    if same {
+        hats::dropped(e)
+    } else {
+        hats::with(e, t)
+    }
+}
+
+// "the partner read from the state"; an axis with no partner has 0.0 beside it
+fn beside(stands: bool, value: f32) -> f32
+    ensures { λ r. ⌜ r ≡ cond stands value zero32 ⌝ }
+{
+    if stands { value } else { 0.0 }
+}
+
+// both fell into the dead zone, the partner had sent a value other than 0, and the state still has one
+fn clears_partner(v: View, pair: Pair) -> bool
+    ensures { λ r. ⌜ r ≡ law.clearsPartner v pair ⌝ }
+{
+    let p = v.partner;
+    let f = v.flags;
+    hats::both(
+        p.stands,
+        hats::both(
+            pair.x == 0.0,
+            hats::both(pair.y == 0.0, hats::both(f.partner, p.value != 0.0)),
+        ),
+    )
+}
+
+// whether a value other than 0 was sent last: as before where the event is dropped
+fn own_flag(same: bool, before: bool, sent: bool) -> bool
+    ensures { λ r. ⌜ r ≡ cond same before sent ⌝ }
+{
+    if same { before } else { sent }
+}
+
+// an axis: the event with its value after the deadzone, the partner's clearing event, and the flags after
+fn stick(v: View, e: Event, n: u8, c: u32, pair: Pair) -> Zoned
+    ensures { λ r. ⌜ r ≡ law.stickZoned v e n c pair ⌝ }
+{
+    let x = pair.x;
+    let p = v.partner;
+    let f = v.flags;
+    let same = v.own == x;
+    let clears = clears_partner(v, pair);
+    let sent = unless(same, e, EventType::Axis(n, c, x));
+    let clearing = hats::with(e, EventType::Axis(names::partner_of(n), p.code, 0.0));
+    Zoned {
+        event: sent,
+        clears: clears,
+        clearing: clearing,
+        flags: Flags {
+            own: own_flag(same, f.own, x != 0.0),
+            partner: hats::both(f.partner, !clears),
+        },
+    }
+}
+
+// 000's `deadzone`
+pub fn deadzoned(v: View, e: Event) -> Zoned
+    ensures { λ r. ⌜ r ≡ law.deadzonedOf v e ⌝ }
+{
+    let t = e.event;
+    match t {
+        EventType::Axis(n, c, x) => {
+            if v.dead {
+                let p = v.partner;
+                let pair = scale::apply_deadzone(x, beside(p.stands, p.value), v.threshold);
+                return stick(v, e, n, c, pair);
+            }
+            passes(v, e)
+        }
+        EventType::Changed(n, c, x) => {
+            if v.dead {
+                let pair = scale::apply_deadzone(x, 0.0, v.threshold);
+                let y = pair.x;
+                return passes(v, unless(v.own == y, e, EventType::Changed(n, c, y)));
+            }
+            passes(v, e)
+        }
+        EventType::Pressed(_, _) => passes(v, e),
+        EventType::Released(_, _) => passes(v, e),
+        EventType::Repeated(_, _) => passes(v, e),
+        EventType::Connected => passes(v, e),
+        EventType::Disconnected => passes(v, e),
+        EventType::Dropped => passes(v, e),
+    }
+}
+
+// ---- the three in order
+
+fn one_if(b: bool) -> u8
+    ensures { λ r. ⌜ Counted b r ⌝ }
+{
+    if b { 1 } else { 0 }
+}
+
+// what dpad queued, then the clearing event
+fn joined(g: Gives, z: Zoned) -> Filtered
+    requires { ⌜ g .count ≤ 3 ⌝ }
+    ensures { λ r. ⌜ r ≡ law.joined g z ⌝ }
+{
+    let mut queued = g.queued;
+    let at = g.count as usize;
+    let clearing = z.clearing;
+    queued[at] = clearing;
+    let sent = z.event;
+    let flags = z.flags;
+    Filtered {
+        gives: Gives {
+            event: sent,
+            count: g.count + one_if(z.clears),
+            queued: queued,
+        },
+        flags: flags,
+    }
+}
+
+// "The event then passes the filters, if on, in the order dpad, jitter, deadzone"
+pub fn filtered(on: bool, v: View, e: Event) -> Filtered
+    ensures { λ r. ⌜ Passed on v e r ⌝ }
+{
+    if on {
+        let g = hats::dpad(v, e);
+        let sent = g.event;
+        let z = deadzoned(v, jittered(v, sent));
+        return joined(g, z);
+    }
+    let flags = v.flags;
+    Filtered {
+        gives: hats::alone(e),
+        flags: flags,
     }
 }

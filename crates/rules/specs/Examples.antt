@@ -7,3 +7,14 @@ mod Sheets
 mod Places
 mod Events
 mod Dispatch
+mod Filters
+mod State
+mod Refusals
+mod Desk
+mod Hub
+mod Step
+mod Pump
+mod Repeat
+mod Calls
+mod Queries
+mod Answers

@@ -1,0 +1,97 @@
+-- Repeat: when a record is due, which is first, and the event that is answered. Assumes nothing.
+use Prim.Native.Nat.{ℕ}
+use mathlib.Core.Path.{_≡_, refl}
+use mathlib.Core.Bool.{Bool, true, false}
+use mathlib.Core.List.{List, [], _∷_, _++_, map}
+use lib.IntN.{ℤ, pos, negsuc}
+use Rattle.numbers.specs.Constants.{one32}
+use Rattle.rules.specs.declared.Hub.{Hub}
+use Rattle.rules.specs.declared.ButtonData.{ButtonData}
+use Rattle.rules.specs.declared.EventType.the-variants.{Repeated}
+use Rattle.rules.specs.declared.RepeatAnswer.{RepeatAnswer}
+use Rattle.rules.specs.declared.RepeatAnswer.the-variants.{Due, Quiet, Refused}
+use Rattle.rules.specs.Names.{codeLeft}
+use Rattle.rules.specs.Calls.{updateOf, renameOf}
+use Rattle.rules.specs.Repeat.{dueOf, repeatOf}
+use Rattle.rules.specs.Examples.Table.{Case, _is_, Right, event}
+use Rattle.rules.specs.Examples.Desk.{desk, twoPads, south, plain, hatX, rawOf, raw, press, release, move, disconnect, after, eventsBytes}
+
+-- ---- when a record is due
+
+-- after 500, every 30; a record of stamp 1,000
+due : Bool → Bool → Bool → ℕ → Bool
+due known pressed repeating now =
+    dueOf known (record { value = one32; stamp = 1000; counter = 0; pressed = pressed; repeating = repeating }) 500 30 now
+
+-- "A stamp later than now is not due"
+dues :
+    Right (
+    due true true false 1500 is true
+    ∷ due true true false 1499 is false
+    ∷ due true true true 1030 is true
+    ∷ due true true true 1029 is false
+    ∷ due true true false 999 is false
+    ∷ due true true true 0 is false
+    ∷ due true false false 1500 is false
+    ∷ due false true false 1500 is false
+    ∷ [])
+unfolding due dueOf
+dues = refl
+
+-- ---- what is answered
+
+-- South is held since 0
+held : Hub
+held = after (desk true true) (press south 0)
+
+-- its repeat, handed back through `update`
+repeated : Hub
+repeated = updateOf held (eventsBytes (event 500 (Repeated 1 south) ∷ [])) .hub
+
+-- "The time is its stamp plus after or every"; "held since 0, after 500, every 30 .. now 499: none"
+answers :
+    Right (
+    repeatOf held 500 30 499 is Quiet
+    ∷ repeatOf held 500 30 500 is Due (event 500 (Repeated 1 south))
+    ∷ repeatOf held 500 30 1000 is Due (event 500 (Repeated 1 south))
+    ∷ repeatOf repeated 500 30 529 is Quiet
+    ∷ repeatOf repeated 500 30 1000 is Due (event 530 (Repeated 1 south))
+    ∷ repeatOf held 0 1 0 is Due (event 0 (Repeated 1 south))
+    ∷ repeatOf held 500 0 1000 is Refused 15
+    ∷ repeatOf held 500 30 0x4000000000000000 is Refused 12
+    ∷ [])
+unfolding held repeated after desk raw updateOf eventsBytes repeatOf
+answers = refl
+
+-- a button that was released is not held
+released : repeatOf (after held (release south 5)) 500 30 1000 ≡ Quiet
+unfolding held after desk raw repeatOf
+released = refl
+
+-- ---- the name: "the code's present button name, else Unknown, so for an unlisted direction"
+
+-- Left by the hat is no element; a button with no name; South renamed East; South renamed as an axis
+names :
+    Right (
+    repeatOf (after (desk true true) (move hatX (negsuc 0) 0)) 500 30 500 is Due (event 500 (Repeated 0 codeLeft))
+    ∷ repeatOf (after (desk true true) (press plain 0)) 500 30 500 is Due (event 500 (Repeated 0 plain))
+    ∷ repeatOf (renameOf held 0 (2 ∷ 255 ∷ 255 ∷ 255 ∷ 255 ∷ 255 ∷ []) .hub) 500 30 500 is Due (event 500 (Repeated 2 south))
+    ∷ repeatOf (renameOf held 0 (33 ∷ 255 ∷ 255 ∷ 255 ∷ 255 ∷ 255 ∷ []) .hub) 500 30 500 is Due (event 500 (Repeated 0 south))
+    ∷ [])
+unfolding held after desk raw renameOf repeatOf
+names = refl
+
+-- ---- the order: "Connected pads by number, codes rising; the first due button"
+
+-- pad 1 holds South since 0, and pad 0 its two buttons since 100, the second first
+both : Hub
+both = after twoPads (rawOf 1 1 south (pos 0) 0 ++ (press plain 100 ++ press south 100))
+
+order :
+    Right (
+    repeatOf both 500 30 599 is Due (record { pad = 1; time = 500; event = Repeated 1 south })
+    ∷ repeatOf both 500 30 600 is Due (event 600 (Repeated 1 south))
+    ∷ repeatOf (after both (disconnect 200)) 500 30 600 is Due (record { pad = 1; time = 500; event = Repeated 1 south })
+    ∷ [])
+unfolding both after twoPads rawOf raw repeatOf
+order = refl

@@ -1,0 +1,170 @@
+-- Steps, as pumps of a few records: what is taken, filtered, queued and stored; Connected and Disconnected. Assumes nothing.
+use Prim.Native.Nat.{ℕ}
+use mathlib.Core.Path.{_≡_, refl}
+use mathlib.Core.Bool.{Bool, true, false}
+use mathlib.Core.List.{List, [], _∷_, _++_, map}
+use lib.ListN.{getD}
+use lib.IntN.{ℤ, pos, negsuc}
+use lib.Ieee.{Float, binary32, ofBits}
+use Rattle.numbers.specs.Constants.{zero32, one32, minusOne32}
+use Rattle.rules.specs.declared.Hub.{Hub}
+use Rattle.rules.specs.declared.EventType.the-variants.{Pressed, Released, Changed, Axis, Connected, Disconnected, Dropped}
+use Rattle.rules.specs.declared.PumpAnswer.the-variants.{Drained}
+use Rattle.rules.specs.declared.TruthAnswer.{TruthAnswer}
+use Rattle.rules.specs.declared.TruthAnswer.the-variants as truthAnswer
+use Rattle.rules.specs.declared.ButtonAnswer.the-variants as buttonAnswer
+use Rattle.rules.specs.declared.AxisAnswer.the-variants as axisAnswer
+use Rattle.rules.specs.Names.{codeLeft, codeRight, dpadLeft, dpadRight, dpadX}
+use Rattle.rules.specs.Sheets.{sheetBytes}
+use Rattle.rules.specs.Calls.{registerOf, insertOf, incOf, renameOf}
+use Rattle.rules.specs.Hub.{convertsNow, hatsNow}
+use Rattle.rules.specs.Queries.{pressedByCode, connectedOf, buttonByCode, axisByCode, nameByCode}
+use Rattle.rules.specs.declared.NumberAnswer.the-variants as numberAnswer
+use Rattle.rules.specs.Examples.Table.{Case, _is_, Right, button, axis, event, half32, threeQuarters32}
+use Rattle.rules.specs.Examples.Desk.{bare, desk, twoPads, rawOf, south, plain, stickX, stickY, trigger, hatX, raw, press, release, move, connect, disconnect, after, tells, told, eventsBytes}
+
+-- ---- what is taken and queued
+
+-- queued events pass the filters: a trigger at 0.75 is pressed, and its Changed comes out of the deadzone as 0.5
+trigger-pressed :
+    tells (desk true true) (move trigger (pos 3) 7) 2 ≡ told (Drained 21 2 2) (event 7 (Pressed 8 trigger) ∷ event 7 (Changed 8 trigger half32) ∷ [])
+unfolding tells told desk raw
+trigger-pressed = refl
+
+-- with updates off nothing is stored, and a trigger at or above pressed gives Pressed every time; with updates on once
+pressed-every-time :
+    Right (
+    tells (desk false false) (move trigger (pos 3) 7 ++ move trigger (pos 4) 8) 4
+    is told (Drained 42 4 4)
+    (event 7 (Pressed 8 trigger)
+    ∷ event 7 (Changed 8 trigger threeQuarters32)
+    ∷ event 8 (Pressed 8 trigger)
+    ∷ event 8 (Changed 8 trigger one32)
+    ∷ [])
+    ∷ tells (desk false true) (move trigger (pos 3) 7 ++ move trigger (pos 4) 8) 3
+    is told (Drained 42 3 3)
+    (event 7 (Pressed 8 trigger) ∷ event 7 (Changed 8 trigger threeQuarters32) ∷ event 8 (Changed 8 trigger one32) ∷ [])
+    ∷ [])
+unfolding tells told desk raw
+pressed-every-time = refl
+
+-- with the filters off a hat stays an axis
+unfiltered : tells (desk false true) (move hatX (negsuc 0) 7) 1 ≡ told (Drained 21 1 1) (event 7 (Axis dpadX hatX minusOne32) ∷ [])
+unfolding tells told desk raw
+unfiltered = refl
+
+-- LeftStickX goes to 1.0, LeftStickY to 0.25, and LeftStickX back to 0.25, where both lie in the dead zone: the clearing event of LeftStickY waits, keeps the
+-- time of its cause and passes the filters itself
+cleared :
+    tells (desk true true) (move stickX (pos 4) 5 ++ (move stickY (pos 1) 6 ++ move stickX (pos 1) 7)) 4
+    ≡ told (Drained 63 4 4)
+    (event 5 (Axis 33 stickX one32)
+    ∷ event 6 (Axis 34 stickY (ofBits binary32 0x3e800000))
+    ∷ event 7 (Axis 33 stickX zero32)
+    ∷ event 7 (Axis 34 stickY zero32)
+    ∷ [])
+unfolding tells told desk raw
+cleared = refl
+
+-- a record keeps the counter of its event's step, and its time
+counted : buttonByCode (after (incOf (incOf (desk true true))) (press south 7)) 0 south
+    ≡ buttonAnswer.Data (record { value = one32; stamp = 7; counter = 2; pressed = true; repeating = false })
+unfolding after desk raw incOf buttonByCode
+counted = refl
+
+-- with updates off nothing is stored
+unstored : buttonByCode (after (desk true false) (press south 7)) 0 south ≡ buttonAnswer.Absent
+unfolding after desk raw buttonByCode
+unstored = refl
+
+-- ---- inserted events
+
+inserted : Bool → Hub
+inserted filters = insertOf (desk filters true) (eventsBytes (event 7 Dropped ∷ [])) .hub
+
+-- DROPPED is a step; it is skipped with filters on and written with filters off
+inserted-dropped :
+    Right (tells (inserted true) [] 0 is told (Drained 0 0 1) [] ∷ tells (inserted false) [] 1 is told (Drained 0 1 1) (event 7 Dropped ∷ []) ∷ [])
+unfolding inserted tells told desk insertOf eventsBytes
+inserted-dropped = refl
+
+-- ---- Disconnected: "Disconnected clears nothing"; records of a disconnected pad are served
+
+parted : Hub
+parted = after (desk true true) (press south 5 ++ disconnect 6)
+
+parting :
+    tells (desk true true) (disconnect 6 ++ press plain 7) 3
+    ≡ told (Drained 42 3 3) (event 6 Disconnected ∷ event 7 (Pressed 0 plain) ∷ event 7 (Changed 0 plain one32) ∷ [])
+unfolding tells told desk raw
+parting = refl
+
+-- "connected but from a taken Disconnected record to the next Connected"
+parted-reads : Right (pressedByCode parted 0 south is truthAnswer.Is true ∷ connectedOf parted 0 is truthAnswer.Is false ∷ [])
+unfolding parted after desk raw pressedByCode connectedOf
+parted-reads = refl
+
+-- ---- Connected: "fresh state and deadzone flags"
+
+-- South pressed and LeftStickX out of the dead zone, then Connected
+joined : Bool → Hub
+joined updates = after (desk true updates) (press south 5 ++ (move stickX (pos 4) 6 ++ (disconnect 7 ++ connect 8)))
+
+joined-reads :
+    Right (pressedByCode (joined true) 0 south is truthAnswer.Is false ∷ connectedOf (joined true) 0 is truthAnswer.Is true ∷ [])
+unfolding joined after desk raw pressedByCode connectedOf
+joined-reads = refl
+
+joined-button : buttonByCode (joined true) 0 south ≡ buttonAnswer.Absent
+unfolding joined after desk raw buttonByCode
+joined-button = refl
+
+joined-axis : axisByCode (joined true) 0 stickX ≡ axisAnswer.Absent
+unfolding joined after desk raw axisByCode
+joined-axis = refl
+
+-- the flag of LeftStickX is up before, and down after, also with updates off
+flags :
+    Right (
+    getD (after (desk true false) (move stickX (pos 4) 6) .flags) 2 false is true
+    ∷ getD (joined true .flags) 2 true is false
+    ∷ getD (joined false .flags) 2 true is false
+    ∷ [])
+unfolding joined after desk raw
+flags = refl
+
+-- another pad's state stays
+other-pad :
+    Right (
+    pressedByCode (after twoPads (rawOf 1 1 south (pos 0) 5 ++ (press south 6 ++ connect 7))) 1 south is truthAnswer.Is true
+    ∷ pressedByCode (after twoPads (rawOf 1 1 south (pos 0) 5 ++ (press south 6 ++ connect 7))) 0 south is truthAnswer.Is false
+    ∷ [])
+unfolding twoPads after rawOf raw pressedByCode
+other-pad = refl
+
+-- ---- "and the names and hats of the registered sheet (000 loads the mapping afresh, so a rename is lost)"
+
+-- hats are 15 and South's code is named DPadRight: the pad converts, until a rename makes its hats 0
+hatted : Hub
+hatted = registerOf (bare true true) (sheetBytes 15 (button south 19 ∷ axis hatX 39 (negsuc 0) (pos 1) 0 ∷ [])) .hub
+
+renamed : Hub
+renamed = renameOf hatted 0 (19 ∷ 40 ∷ []) .hub
+
+converts :
+    Right (convertsNow hatted 0 is true ∷ convertsNow renamed 0 is false ∷ convertsNow (after renamed (connect 7)) 0 is true ∷ [])
+unfolding hatted renamed bare registerOf sheetBytes renameOf after raw convertsNow
+converts = refl
+
+hats : Right (hatsNow hatted 0 is 15 ∷ hatsNow renamed 0 is 0 ∷ hatsNow (after renamed (connect 7)) 0 is 15 ∷ [])
+unfolding hatted renamed bare registerOf sheetBytes renameOf after raw hatsNow
+hats = refl
+
+names :
+    Right (
+    nameByCode renamed 0 hatX is numberAnswer.Number 40
+    ∷ nameByCode (after renamed (disconnect 7)) 0 hatX is numberAnswer.Number 40
+    ∷ nameByCode (after renamed (connect 7)) 0 hatX is numberAnswer.Number 39
+    ∷ [])
+unfolding hatted renamed bare registerOf sheetBytes renameOf after raw nameByCode
+names = refl
