@@ -3,11 +3,14 @@ use rules::Element;
 use rules::Row;
 use rules::SheetElement;
 ghost use mathlib.Core.Path.{_≡_};
-ghost use mathlib.Core.Bool.{true};
+ghost use mathlib.Core.Bool.{true, cond, not};
 ghost use Prim.Native.Nat.{_+_, _*_, _≤_};
-ghost use lib.ListN.{length};
+ghost use lib.Dec.{eqb};
+ghost use lib.ListN.{length, getD};
 ghost use Rattle.rules.specs.Sheets.{elementOf, countOf, axisFits, elementFits, sheetRefusal, sheetOpening, elementSize};
 ghost use Rattle.rules.specs.Places.{noElement, axisElement, listedRow, unlistedRow, elementNext, directionNext, nextRow, oneIf, rowsOf};
+ghost use Rattle.rules.specs.Names.{noName, placesPerPad};
+ghost use Rattle.rules.specs.Calls.{renamesAfter};
 ghost use Rattle.layout.specs.Good.{Good};
 
 const SHEET_OPENING: usize = 5;
@@ -169,4 +172,45 @@ pub fn lay(s: &[u8]) -> [Row; 52]
         k = k + 1;
     }
     rows
+}
+
+// ---- a rename list
+
+// The name that a place gets: the list's i-th where the sheet lists the place, else none.
+fn name_given(kind: u8, list: &[u8], i: usize) -> u8
+    ensures { λ r. ⌜ r ≡ cond (eqb kind 0) noName (getD (now (list .entry)) i 0) ⌝ }
+{
+    if kind == 0 {
+        return names::NO_NAME;
+    }
+    if i < list.len() { list[i] } else { 0 }
+}
+
+fn listed(kind: u8) -> bool
+    ensures { λ r. ⌜ r ≡ not (eqb kind 0) ⌝ }
+{
+    kind != 0
+}
+
+// The column of the names that hold after a rename of a pad.
+pub fn rename(renames: [u8; 208], kinds: [u8; 208], pad: u8, list: &[u8]) -> [u8; 208]
+    ensures { λ r. ⌜ r ≡ renamesAfter renames kinds (now (list .entry)) placesPerPad (placesPerPad * pad) 0 ⌝ }
+{
+    let mut column = renames;
+    let mut place = PLACES_PER_PAD * pad as usize;
+    let mut i: usize = 0;
+    let mut left = PLACES_PER_PAD;
+    while 0 < left {
+        if 208 <= place {
+            return column;
+        }
+        let kind = kinds[place];
+        let name = name_given(kind, list, i);
+        let element = one_if(listed(kind)) as usize;
+        column[place] = name;
+        place = place + 1;
+        i = i + element;
+        left = left - 1;
+    }
+    column
 }
