@@ -1,15 +1,13 @@
 -- What a reader's tests say of a record and of an event, over plain numbers: each test that fails refuses, and where all hold the fields read are
 -- the form's. Assumes nothing.
-use mathlib.Core.Path.{_≡_, refl}
-use mathlib.Core.Bool.{Bool, true, false}
+use mathlib.Core.Path.{_≡_}
+use mathlib.Core.Bool.{true, false}
 use mathlib.Core.List.{List}
 use Prim.Native.Nat.{ℕ, _+_, _-_, _≤_, _<_}
 use lib.ListN.{length, getD}
 use lib.IntN.{ℤ}
 use borrow.Author.Tests.{le-leb, lt-leb, eq-eqb, ne-eqb}
-use Rattle.rules.specs.declared.RecordRead.{RecordRead}
 use Rattle.rules.specs.declared.RecordRead.the-variants as recordRead
-use Rattle.rules.specs.declared.EventRead.{EventRead}
 use Rattle.rules.specs.declared.EventRead.the-variants as eventRead
 use Rattle.rules.specs.Forms.{fieldOf, signedOf, opens, recordKindFits, recordFits, recordFields, readRecord, eventKindFits, eventFits, eventFields, readEvent}
 
