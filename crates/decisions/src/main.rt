@@ -145,6 +145,16 @@ fn view(case: &[u8; 104]) -> View {
     }
 }
 
+// an event that is queued is the one at these words
+fn waits(queued: bool, e: Event, case: &[u8; 104], n: usize) -> bool
+    requires { ⌜ n + 4 ≤ 26 ⌝ }
+{
+    if queued {
+        return same(e, case, n);
+    }
+    true
+}
+
 fn gave(g: Gives, case: &[u8; 104]) -> bool {
     let count = g.count;
     if count != case[3] {
@@ -158,17 +168,16 @@ fn gave(g: Gives, case: &[u8; 104]) -> bool {
         return false;
     }
     let queued = g.queued;
-    let mut i: usize = 0;
-    while i < 3 {
-        let e = queued[i];
-        if i < (count as usize) {
-            if !same(e, case, QUEUED + 4 * i) {
-                return false;
-            }
-        }
-        i = i + 1;
+    let first = queued[0];
+    let second = queued[1];
+    let third = queued[2];
+    if !waits(0 < count, first, case, QUEUED) {
+        return false;
     }
-    true
+    if !waits(1 < count, second, case, QUEUED + 4) {
+        return false;
+    }
+    waits(2 < count, third, case, QUEUED + 8)
 }
 
 // the flags after; an axis that has none is left out, since the pump keeps none for it
@@ -215,12 +224,10 @@ fn deadzone(case: &[u8; 104]) -> bool {
     if !agree(z.clears, case[3] == 1) {
         return false;
     }
-    if z.clears {
-        if !same(clearing, case, QUEUED) {
-            return false;
-        }
+    if waits(z.clears, clearing, case, QUEUED) {
+        return flagged(flags, case);
     }
-    flagged(flags, case)
+    false
 }
 
 // ---- dispatch
