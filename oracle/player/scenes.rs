@@ -89,8 +89,8 @@ impl Scene<'_> {
         let mut payload = Vec::new();
         put(&mut payload, u64::from(pressed.to_bits()), 4);
         put(&mut payload, u64::from(released.to_bits()), 4);
-        // filters and updates mostly on
-        payload.push(self.random.among(&[6, 7, 6, 7, 6, 7, 0, 1, 2, 3, 4, 5]));
+        // filters and updates mostly on, else filters alone more often than not
+        payload.push(self.random.among(&[6, 7, 6, 7, 6, 7, 6, 7, 0, 1, 2, 3, 2, 3, 4, 5]));
         let mut ahead = Vec::new();
         self.sheets.iter().for_each(|sheet| ahead.extend(scenario::write(scenario::REGISTER, sheet)));
         self.renames.iter().for_each(|list| ahead.extend(scenario::write(scenario::RENAME, list)));
@@ -117,7 +117,8 @@ impl Scene<'_> {
     fn call(&mut self) {
         match self.random.below(100) {
             0..=39 => self.pump(),
-            40..=59 => self.query(),
+            40..=57 => self.query(),
+            58..=59 => self.clear(),
             60..=69 => self.give(scenario::INSERT),
             70..=77 => self.give(scenario::UPDATE),
             78..=84 => self.repeat(),
@@ -125,9 +126,7 @@ impl Scene<'_> {
             90..=93 => self.rename(),
             94..=95 => self.register(),
             96 => (0..self.random.between(10, 24)).for_each(|_| self.give(scenario::INSERT)),
-            97 => {
-                self.play(scenario::DUMP, &[]);
-            }
+            97 => self.clear(),
             _ => {
                 self.play(scenario::WAITING, &[]);
             }
@@ -137,6 +136,19 @@ impl Scene<'_> {
     fn give(&mut self, opcode: u8) {
         let event = self.traffic.event_bytes(self.random);
         self.play(opcode, &event);
+    }
+
+    /// A pair of axes that clear each other, pumped a few steps at a time with a look at the flags in between.
+    fn clear(&mut self) {
+        for event in self.traffic.clearing(self.random) {
+            self.play(scenario::INSERT, &event.to_bytes());
+        }
+        self.batch.clear();
+        for allowance in [2, 1, 2] {
+            self.place = 0;
+            self.pump_with(LONGEST_BUFFER, allowance);
+            self.play(scenario::DUMP, &[]);
+        }
     }
 
     fn rename(&mut self) {
@@ -171,11 +183,11 @@ impl Scene<'_> {
     }
 
     fn fresh_batch(&mut self) -> Vec<u8> {
-        let records = match self.random.below(600) {
+        let records = match self.random.below(1_200) {
             0 => 780,
             1 => 781,
-            2..=60 => 0,
-            61..=360 => self.random.between(1, 6),
+            2..=120 => 0,
+            121..=720 => self.random.between(1, 6),
             _ => self.random.between(5, 30),
         };
         let mut batch = Vec::new();
@@ -195,6 +207,9 @@ impl Scene<'_> {
         put(&mut payload, allowance, 2);
         payload.extend_from_slice(&self.batch);
         let lines = self.play(scenario::PUMP, &payload);
+        if lines.last().map_or(false, |last| last.starts_with("PAUSED")) && self.random.chance(30) {
+            self.play(scenario::DUMP, &[]);
+        }
         if let Some(last) = lines.last() {
             let mut words = last.split(' ').rev();
             self.place = words.nth(2).and_then(|word| word.parse().ok()).expect("a place");
@@ -212,7 +227,7 @@ impl Scene<'_> {
         self.pump_with(LONGEST_BUFFER, 65_535);
     }
 
-    /// Asks for a repeat, up to six times at one moment, mostly giving the answer back to `update`.
+    /// Asks for a repeat, up to six times, mostly giving the answer back to `update`.
     fn repeat(&mut self) {
         let (after, every) = self.random.among(&[
             (500_000, 30_000),
@@ -230,15 +245,22 @@ impl Scene<'_> {
             2 => 0,
             _ => (self.traffic.clock + self.random.among(&[0, 16_000, 499_999, 500_000, 700_000])).min(LAST_TIME),
         };
-        let mut payload = Vec::new();
-        [after, every, now].iter().for_each(|number| put(&mut payload, *number, 8));
+        self.repeat_at(after, every, now);
+    }
+
+    /// After a repeat that is given back, asks again at the same moment, or where the next one is just due or not yet.
+    fn repeat_at(&mut self, after: u64, every: u64, mut now: u64) {
         for _ in 0..self.random.between(1, 6) {
+            let mut payload = Vec::new();
+            [after, every, now].iter().for_each(|number| put(&mut payload, *number, 8));
             let lines = self.play(scenario::REPEAT, &payload);
-            match lines.first().and_then(|line| repeated(line)) {
-                Some(event) if self.random.chance(85) => {
-                    self.play(scenario::UPDATE, &event.to_bytes());
-                }
+            let event = match lines.first().and_then(|line| repeated(line)) {
+                Some(event) if self.random.chance(85) => event,
                 _ => break,
+            };
+            self.play(scenario::UPDATE, &event.to_bytes());
+            if self.random.chance(50) {
+                now = (event.time + every - self.random.below(2)).min(LAST_TIME);
             }
         }
     }
@@ -250,7 +272,11 @@ impl Scene<'_> {
     }
 
     fn query(&mut self) {
-        let opcode = self.random.between(i64::from(scenario::PRESSED_BY_CODE), i64::from(scenario::STANDS)) as u8;
+        let first = i64::from(scenario::PRESSED_BY_CODE);
+        let opcode = match self.random.below(5) {
+            0 => scenario::PRESSED_BY_NAME,
+            _ => self.random.between(first, i64::from(scenario::STANDS)) as u8,
+        };
         let pad = if self.random.chance(95) { self.traffic.pad(self.random) } else { self.random.below(6) as u8 };
         let mut payload = vec![pad];
         match opcode {
@@ -266,11 +292,12 @@ impl Scene<'_> {
         self.play(opcode, &payload);
     }
 
+    /// A name between the two, a direction, or one at an edge of the table.
     fn asked_name(&mut self, low: i64, high: i64) -> u8 {
-        if self.random.chance(90) {
-            self.random.between(low, high) as u8
-        } else {
-            self.random.among(&[0, 1, 19, 20, 31, names::UNKNOWN_AXIS, 33, 40, 41, 254, names::NO_NAME])
+        match self.random.below(10) {
+            0 => self.random.among(&[0, 1, 19, 20, 31, names::UNKNOWN_AXIS, 33, 40, 41, 254, names::NO_NAME]),
+            1..=4 if low == 1 => self.random.between(16, 19) as u8,
+            _ => self.random.between(low, high) as u8,
         }
     }
 }

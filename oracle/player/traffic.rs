@@ -146,6 +146,30 @@ impl Traffic {
         }
     }
 
+    /// Events that bring one axis of a pair just out of its deadzone and then, several times over, the other so far
+    /// back that the first must be cleared: what clears it waits behind the later ones. Empty if the pad has no pair.
+    pub fn clearing(&mut self, random: &mut Random) -> Vec<Event> {
+        let pad = self.pad(random);
+        let (first, second) = random.among(&[(33, 34), (34, 33), (36, 37), (37, 36), (39, 40), (40, 39)]);
+        let pair = self.pads.get(usize::from(pad)).map(|sheet| (sheet.named(first), sheet.named(second)));
+        let (first, second) = match pair {
+            Some((Some(first), Some(second))) if first.kind == sheet::AXIS => (*first, *second),
+            _ => return Vec::new(),
+        };
+        let threshold = match first.deadzone {
+            sheet::ABSENT => 0.1,
+            deadzone => deadzone as f32 / (first.max - first.min) as f32 * 2.0,
+        };
+        let out = (threshold * random.among(&[1.01, 1.1, 1.3]) + 0.001).min(1.0);
+        let mut events = Vec::new();
+        for (element, value) in [(first, out), (second, 0.0), (second, 0.3 * out), (second, 0.0), (first, out)] {
+            let bits = value.to_bits() | random.below(2) as u32 * 0x8000_0000;
+            let time = self.time(random);
+            events.push(Event { kind: event::AXIS, pad, name: element.name, code: element.code, bits, time });
+        }
+        events
+    }
+
     /// A code to ask about: listed, a direction, one of `to_nec`, any.
     pub fn asked_code(&self, random: &mut Random, pad: u8) -> u32 {
         let listed = self.element(random, pad).map(|element| element.code);

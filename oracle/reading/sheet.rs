@@ -107,6 +107,10 @@ impl Sheet {
     pub fn element(&self, code: u32) -> Option<&Element> {
         self.elements.iter().find(|element| element.code == code)
     }
+
+    pub fn named(&self, name: u8) -> Option<&Element> {
+        self.elements.iter().find(|element| element.name == name)
+    }
 }
 
 /// Rename: 6 and 7 are the hub's to judge; then 3, 4, 5 over the list.

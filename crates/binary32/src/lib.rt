@@ -62,7 +62,7 @@ fn closer(w: u64, s: u64) -> u64
     (s + w / s) / 2
 }
 
-// the whole part of the root of a number below 2^48: from above, at most 5 divisions for a w from 2^46 on
+// the whole part of the root of a number below 2^48, by Newton's steps from above
 fn floor_root(w: u64) -> u64
     requires { ⌜ (0 < w) × (w < 2 ^ 48) ⌝ }
     ensures { λ r. ⌜ Floor w r ⌝ }

@@ -1,0 +1,5 @@
+pub mod Runs
+pub mod Records
+pub mod Turns
+pub mod Updates
+pub mod Parts
