@@ -82,8 +82,8 @@ renames :
 unfolding list desk after raw renameOf
 renames = refl
 
-rename-refused : renameOf (desk true true) 0 (0 ∷ []) .hub ≡ desk true true
-unfolding desk renameOf
+rename-refused : renameOf (blank 1) 0 (0 ∷ []) .hub ≡ blank 1
+unfolding blank bare registerOf sheetBytes renameOf
 rename-refused = refl
 
 -- the i-th name goes to the i-th element, past the unlisted directions between them; the sheet's own names stay beside
@@ -125,7 +125,7 @@ updates :
 unfolding one bare desk eventsBytes updateOf
 updates = refl
 
--- Connected and Disconnected given to `update` change no state and not the connected flag
+-- Connected and Disconnected given to `update` change no state and not the connected flag, and a refused event changes nothing
 unchanged :
     Right (
     updateOf (desk true true) (one (event 5 Connected)) .hub is desk true true
@@ -163,8 +163,8 @@ inserts :
 unfolding inserting half-pumped one pump desk raw eventsBytes insertOf
 inserts = refl
 
-insert-refused : insertOf (desk true true) (one (event 5 (Pressed 1 0))) .hub ≡ desk true true
-unfolding one desk eventsBytes insertOf
+insert-refused : insertOf (blank 1) (one (event 5 (Pressed 1 0))) .hub ≡ blank 1
+unfolding one blank bare registerOf sheetBytes eventsBytes insertOf
 insert-refused = refl
 
 -- an inserted hat event is converted as a record's is

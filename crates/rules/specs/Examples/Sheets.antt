@@ -8,7 +8,7 @@ use lib.IntN.{ℤ, pos, negsuc}
 use Rattle.rules.specs.declared.SheetElement.{SheetElement}
 use Rattle.rules.specs.declared.SheetRead.{SheetRead}
 use Rattle.rules.specs.declared.SheetRead.the-variants as sheetRead
-use Rattle.rules.specs.Sheets.{sheetRefusal, readSheet, elementOf, sheetBytes, renameListRefusal}
+use Rattle.rules.specs.Sheets.{sheetFits, sheetRefusal, readSheet, elementOf, sheetBytes, renameListRefusal}
 use Rattle.rules.specs.Examples.Table.{Case, _is_, Right, button, axis}
 
 -- ---- the bytes: "count, version, hats 0..15, n, then n elements: code 4, kind 1, name 1, min 4, max 4, deadzone 4"
@@ -60,6 +60,10 @@ sizes :
     ∷ [])
 unfolding sheetRefusal sheetBytes hatBytes many
 sizes = refl
+
+most : Right (sheetFits (sheetBytes 0 (many 48 0)) is true ∷ sheetFits (sheetBytes 0 (many 49 0)) is false ∷ [])
+unfolding sheetFits sheetBytes many
+most = refl
 
 -- ---- 4: "hats over 15 or an element breaks a rule"
 
