@@ -128,11 +128,11 @@ updates = refl
 -- Connected and Disconnected given to `update` change no state and not the connected flag, and a refused event changes nothing
 unchanged :
     Right (
-    updateOf (desk true true) (one (event 5 Connected)) .hub is desk true true
-    ∷ updateOf (desk true true) (one (event 5 Disconnected)) .hub is desk true true
-    ∷ updateOf (desk true true) (one (event 5 (Pressed 1 0))) .hub is desk true true
+    updateOf (blank 1) (one (event 5 Connected)) .hub is blank 1
+    ∷ updateOf (blank 1) (one (event 5 Disconnected)) .hub is blank 1
+    ∷ updateOf (blank 1) (one (event 5 (Pressed 1 0))) .hub is blank 1
     ∷ [])
-unfolding one desk eventsBytes updateOf
+unfolding one blank bare registerOf sheetBytes eventsBytes updateOf
 unchanged = refl
 
 -- an axis event on a button's code makes an axis record there, beside the button record; also with updates off

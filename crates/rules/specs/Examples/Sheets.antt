@@ -44,7 +44,6 @@ sizes :
     Right (
     sheetRefusal hatBytes is 0
     ∷ sheetRefusal (sheetBytes 0 []) is 0
-    ∷ sheetRefusal (sheetBytes 0 (many 48 0)) is 0
     ∷ sheetRefusal (sheetBytes 0 (many 49 0)) is 3
     ∷ sheetRefusal [] is 3
     ∷ sheetRefusal (0 ∷ []) is 3
@@ -61,6 +60,7 @@ sizes :
 unfolding sheetRefusal sheetBytes hatBytes many
 sizes = refl
 
+-- 48 elements fit
 most : Right (sheetFits (sheetBytes 0 (many 48 0)) is true ∷ sheetFits (sheetBytes 0 (many 49 0)) is false ∷ [])
 unfolding sheetFits sheetBytes many
 most = refl
