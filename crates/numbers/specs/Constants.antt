@@ -1,9 +1,9 @@
 -- The numbers that 01's arithmetic names. Definitions only. Assumes nothing.
 -- A binary32 constant is given by its bits, which is how the checker writes a literal of the code.
-use mathlib.Core.Bool.{Bool}
+use mathlib.Core.Bool.{Bool, _||_}
 use Prim.Native.Nat.{ℕ}
 use lib.IntN.{ℤ, pos, negsuc}
-use lib.Dec.{ltb}
+use lib.Dec.{ltb, eqb}
 use lib.Ieee as Ieee
 use lib.Ieee.{Float, binary32}
 
@@ -39,3 +39,11 @@ wholeLimit = 8388608
 unfoldable pub withinOf : ℤ → Bool
 withinOf (pos n) = ltb n wholeLimit
 withinOf (negsuc n) = ltb n wholeLimit
+
+-- 2 ^ 24: a deadzone lies in 0..16,777,215
+abbrev pub deadzoneLimit : ℕ
+deadzoneLimit = 16777216
+
+-- whether a deadzone field is one that 01 allows: in those limits, or absent
+unfoldable pub deadzoneWithinOf : ℕ → Bool
+deadzoneWithinOf deadzone = eqb deadzone absent || ltb deadzone deadzoneLimit

@@ -5,3 +5,9 @@ pub mod Scale
 pub mod Deadzone
 pub mod Jitter
 pub mod Examples
+pub mod RootTable
+pub mod Whole
+pub mod Order
+pub mod NoNan
+pub mod Bounds
+pub mod Zeros

@@ -1,7 +1,7 @@
 -- 01's "Scaling" and "Deadzone threshold": 000's `axis_value`, `btn_value` and `Gamepad::deadzone`. Definitions only. Assumes nothing.
 -- An axis element is kept as three values that its min and max give once: `lowOf`, `rangeOf`, `oddOf`. The scaled value of a raw one reads those
 -- (`axisScaledOf`, `buttonScaledOf`); `axisValueOf` and `buttonValueOf` say the same of min and max, in 01's words.
-use mathlib.Core.Bool.{Bool, true, false, cond, _&&_}
+use mathlib.Core.Bool.{Bool, false, cond, _&&_}
 use Prim.Native.Nat.{ℕ}
 use lib.IntN.{ℤ, pos, negsuc, _-ℤ_}
 use lib.Signed.{remZ}

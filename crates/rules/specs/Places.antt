@@ -20,7 +20,8 @@ use Rattle.rules.specs.Sheets.{elementOf, elementButton, lastHats}
 unfoldable pub seekOf : ℕ → List ℕ → ℕ → ℕ → ℕ → ℕ
 seekOf zero codes lo n c = lo
 seekOf (suc k) codes lo n c =
-    cond (ltb (getD codes (lo + n / 2) 0) c) (seekOf k codes (lo + n / 2 + 1) (n - n / 2 - 1) c) (seekOf k codes lo (n / 2) c)
+    cond (eqb n 0) lo
+    (cond (ltb (getD codes (lo + n / 2) 0) c) (seekOf k codes (lo + n / 2 + 1) (n - n / 2 - 1) c) (seekOf k codes lo (n / 2) c))
 
 -- 52 places are halved six times
 abbrev pub halvings : ℕ

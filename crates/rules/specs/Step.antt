@@ -14,6 +14,7 @@ use Rattle.rules.specs.declared.RecordRead.the-variants as recordRead
 use Rattle.rules.specs.declared.Looked.{Looked}
 use Rattle.rules.specs.declared.Dispatched.{Dispatched}
 use Rattle.rules.specs.declared.Flags.{Flags}
+use Rattle.rules.specs.declared.Gives.{Gives}
 use Rattle.rules.specs.declared.Filtered.{Filtered}
 use Rattle.rules.specs.Names.{placesPerPad, flagsPerPad, partnerOf, queueRoom}
 use Rattle.rules.specs.Forms.{readRecord, kindConnected, kindDisconnected}
@@ -113,9 +114,9 @@ markedOf h r =
 
 -- ---- what waits behind the event: the record's own, then the filters'
 
-unfoldable pub pushesOf : Dispatched → Filtered → List Event
+unfoldable pub pushesOf : Dispatched → Gives → List Event
 unfolding queuedOf
-pushesOf d f = cond (d .follows) (d .next ∷ queuedOf (f .gives)) (queuedOf (f .gives))
+pushesOf d g = cond (d .follows) (d .next ∷ queuedOf g) (queuedOf g)
 
 unfoldable pub flagsSet : List Bool → ℕ → ℕ → Flags → List Bool
 unfolding flagPlace partnerOf
@@ -204,7 +205,7 @@ filteredIn h e = filteredOf (h .filters) (viewOf h e) e
 -- what is taken, filtered and queued: the hub before its state is updated
 unfoldable pub turnedOf : Hub → Dispatched → Hub
 unfolding pushedOf pushesOf filteredIn
-turnedOf h d = pushedOf h (d .event) (filteredIn h (d .event) .flags) (pushesOf d (filteredIn h (d .event)))
+turnedOf h d = pushedOf h (d .event) (filteredIn h (d .event) .flags) (pushesOf d (filteredIn h (d .event) .gives))
 
 -- the event that a step hands on, or Dropped
 unfoldable pub stepEvent : Hub → Looked → Event

@@ -1,0 +1,194 @@
+// The filters in their order, dpad, jitter, deadzone, as decisions on what each sees of the hub: 000's `Jitter` and `deadzone`, after the crate
+// `hats`.
+ghost use mathlib.Core.Path.{_≡_};
+ghost use mathlib.Core.Bool.{cond};
+ghost use Prim.Native.Nat.{_≤_};
+ghost use Rattle.numbers.specs.Constants.{zero32};
+ghost use Rattle.rules.specs.Filters as law;
+ghost use Rattle.filters.specs.Post.{Counted, Passed};
+use numbers::Pair;
+use rules::Event;
+use rules::EventType;
+use rules::Filtered;
+use rules::Flags;
+use rules::Gives;
+use rules::View;
+use rules::Zoned;
+
+// ---- jitter
+
+// 000's `Jitter`
+pub fn jittered(v: View, e: Event) -> Event
+    ensures { λ r. ⌜ r ≡ law.jitteredOf v e ⌝ }
+{
+    let t = e.event;
+    match t {
+        EventType::Axis(_, _, x) => {
+            if hats::both(v.stored, scale::jitters(x, v.stick)) {
+                return hats::dropped(e);
+            }
+            e
+        }
+        EventType::Pressed(_, _) => e,
+        EventType::Released(_, _) => e,
+        EventType::Repeated(_, _) => e,
+        EventType::Changed(_, _, _) => e,
+        EventType::Connected => e,
+        EventType::Disconnected => e,
+        EventType::Dropped => e,
+    }
+}
+
+// ---- deadzone
+
+// the filter passes an event as it is
+fn passes(v: View, e: Event) -> Zoned
+    ensures { λ r. ⌜ r ≡ law.passes v e ⌝ }
+{
+    let flags = v.flags;
+    Zoned {
+        event: e,
+        clears: false,
+        clearing: e,
+        flags: flags,
+    }
+}
+
+// dropped where the state has the value already
+fn unless(same: bool, e: Event, t: EventType) -> Event
+    ensures { λ r. ⌜ r ≡ law.unless same e t ⌝ }
+{
+    if same {
+        hats::dropped(e)
+    } else {
+        hats::with(e, t)
+    }
+}
+
+// "the partner read from the state"; an axis with no partner has 0.0 beside it
+fn beside(stands: bool, value: f32) -> f32
+    ensures { λ r. ⌜ r ≡ cond stands value zero32 ⌝ }
+{
+    if stands { value } else { 0.0 }
+}
+
+// both fell into the dead zone, the partner had sent a value other than 0, and the state still has one
+fn clears_partner(v: View, pair: Pair) -> bool
+    ensures { λ r. ⌜ r ≡ law.clearsPartner v pair ⌝ }
+{
+    let p = v.partner;
+    let f = v.flags;
+    hats::both(
+        p.stands,
+        hats::both(
+            pair.x == 0.0,
+            hats::both(pair.y == 0.0, hats::both(f.partner, p.value != 0.0)),
+        ),
+    )
+}
+
+// whether a value other than 0 was sent last: as before where the event is dropped
+fn own_flag(same: bool, before: bool, sent: bool) -> bool
+    ensures { λ r. ⌜ r ≡ cond same before sent ⌝ }
+{
+    if same { before } else { sent }
+}
+
+// an axis: the event with its value after the deadzone, the partner's clearing event, and the flags after
+fn stick(v: View, e: Event, n: u8, c: u32, pair: Pair) -> Zoned
+    ensures { λ r. ⌜ r ≡ law.stickZoned v e n c pair ⌝ }
+{
+    let x = pair.x;
+    let p = v.partner;
+    let f = v.flags;
+    let same = v.own == x;
+    let clears = clears_partner(v, pair);
+    let sent = unless(same, e, EventType::Axis(n, c, x));
+    let clearing = hats::with(e, EventType::Axis(names::partner_of(n), p.code, 0.0));
+    Zoned {
+        event: sent,
+        clears: clears,
+        clearing: clearing,
+        flags: Flags {
+            own: own_flag(same, f.own, x != 0.0),
+            partner: hats::both(f.partner, !clears),
+        },
+    }
+}
+
+// 000's `deadzone`
+pub fn deadzoned(v: View, e: Event) -> Zoned
+    ensures { λ r. ⌜ r ≡ law.deadzonedOf v e ⌝ }
+{
+    let t = e.event;
+    match t {
+        EventType::Axis(n, c, x) => {
+            if v.dead {
+                let p = v.partner;
+                let pair = scale::apply_deadzone(x, beside(p.stands, p.value), v.threshold);
+                return stick(v, e, n, c, pair);
+            }
+            passes(v, e)
+        }
+        EventType::Changed(n, c, x) => {
+            if v.dead {
+                let pair = scale::apply_deadzone(x, 0.0, v.threshold);
+                let y = pair.x;
+                return passes(v, unless(v.own == y, e, EventType::Changed(n, c, y)));
+            }
+            passes(v, e)
+        }
+        EventType::Pressed(_, _) => passes(v, e),
+        EventType::Released(_, _) => passes(v, e),
+        EventType::Repeated(_, _) => passes(v, e),
+        EventType::Connected => passes(v, e),
+        EventType::Disconnected => passes(v, e),
+        EventType::Dropped => passes(v, e),
+    }
+}
+
+// ---- the three in order
+
+fn one_if(b: bool) -> u8
+    ensures { λ r. ⌜ Counted b r ⌝ }
+{
+    if b { 1 } else { 0 }
+}
+
+// what dpad queued, then the clearing event
+fn joined(g: Gives, z: Zoned) -> Filtered
+    requires { ⌜ g .count ≤ 3 ⌝ }
+    ensures { λ r. ⌜ r ≡ law.joined g z ⌝ }
+{
+    let mut queued = g.queued;
+    let at = g.count as usize;
+    let clearing = z.clearing;
+    queued[at] = clearing;
+    let sent = z.event;
+    let flags = z.flags;
+    Filtered {
+        gives: Gives {
+            event: sent,
+            count: g.count + one_if(z.clears),
+            queued: queued,
+        },
+        flags: flags,
+    }
+}
+
+// "The event then passes the filters, if on, in the order dpad, jitter, deadzone"
+pub fn filtered(on: bool, v: View, e: Event) -> Filtered
+    ensures { λ r. ⌜ Passed on v e r ⌝ }
+{
+    if on {
+        let g = hats::dpad(v, e);
+        let sent = g.event;
+        let z = deadzoned(v, jittered(v, sent));
+        return joined(g, z);
+    }
+    let flags = v.flags;
+    Filtered {
+        gives: hats::alone(e),
+        flags: flags,
+    }
+}

@@ -1,0 +1,259 @@
+// What a step gathers: places, and what the hub's columns say of them. Each answer is the law book's, for any columns.
+ghost use mathlib.Core.Path.{_≡_};
+ghost use mathlib.Core.Bool.{Bool, cond};
+ghost use Prim.Native.Nat.{_≤_};
+ghost use lib.ListN.{getD};
+ghost use Rattle.rules.specs.Names.{noName};
+ghost use Rattle.rules.specs.Places.{presentNames, namedOf};
+ghost use Rattle.rules.specs.Hub.{flagPlace};
+ghost use Rattle.gather.specs.Sight.{FoundIs, SightIs, PlaceIs, cellOf, hatPlaceOf, partnerPlaceOf, convertsIn, viewBy};
+use rules::AxisData;
+use rules::ButtonData;
+use rules::Element;
+use rules::Flags;
+use rules::Partner;
+use rules::View;
+
+const PADS: u8 = 4;
+
+const FLAGS_PER_PAD: usize = 6;
+
+const NO_FLAG: usize = 24;
+
+const ELEMENT_AXIS: u8 = 2;
+
+// ---- a record's element
+
+// The place of a record's code, the kind and the present name of the element there, and whether it has a button record.
+pub struct Found {
+    pub place: usize,
+    pub kind: u8,
+    pub name: u8,
+    pub touched: bool,
+}
+
+// The present name of a place: a rename's until the next Connected.
+pub fn present_name<'a>(
+    names: &'a [u8; 208],
+    renames: &'a [u8; 208],
+    renamed: &'a [bool; 4],
+    p: u8,
+    place: usize,
+) -> u8
+    ensures { λ r. ⌜ r ≡ getD (presentNames (now (names .entry)) (now (renames .entry)) (now (renamed .entry)) p) place noName ⌝ }
+{
+    if pad::pad_bool(renamed, p) {
+        pad::name_at(renames, place)
+    } else {
+        pad::name_at(names, place)
+    }
+}
+
+pub fn find<'a>(
+    codes: &'a [u32; 208],
+    kinds: &'a [u8; 208],
+    names: &'a [u8; 208],
+    renames: &'a [u8; 208],
+    renamed: &'a [bool; 4],
+    touched: &'a [bool; 208],
+    p: u8,
+    code: u32,
+) -> Found
+    ensures { λ r. ⌜ FoundIs (now (codes .entry)) (now (kinds .entry)) (now (names .entry)) (now (renames .entry)) (now (renamed .entry)) (now (touched .entry)) p code r ⌝ }
+{
+    let place = pad::place_of(codes, p, code);
+    Found {
+        place: place,
+        kind: pad::kind_at(kinds, place),
+        name: present_name(names, renames, renamed, p, place),
+        touched: pad::bool_at(touched, place),
+    }
+}
+
+// ---- an event's places
+
+// A place, and which records it has.
+pub struct Cell {
+    pub place: usize,
+    pub touched: bool,
+    pub moved: bool,
+}
+
+pub fn cell_at<'a>(touched: &'a [bool; 208], moved: &'a [bool; 208], place: usize) -> Cell
+    ensures { λ r. ⌜ r ≡ cellOf (now (touched .entry)) (now (moved .entry)) place ⌝ }
+{
+    Cell {
+        place: place,
+        touched: pad::bool_at(touched, place),
+        moved: pad::bool_at(moved, place),
+    }
+}
+
+// A direction's place, for the axis of a hat.
+pub fn hat_place(codes: &[u32; 208], p: u8, name: u8, code: u32) -> usize
+    ensures { λ r. ⌜ PlaceIs (hatPlaceOf (now (codes .entry)) p name code) r ⌝ }
+{
+    if names::is_hat(name) {
+        pad::place_of(codes, p, code)
+    } else {
+        pad::NOWHERE
+    }
+}
+
+// The place of a present name.
+pub fn present_place<'a>(
+    names: &'a [u8; 208],
+    renames: &'a [u8; 208],
+    renamed: &'a [bool; 4],
+    p: u8,
+    name: u8,
+) -> usize
+    ensures { λ r. ⌜ PlaceIs (namedOf (presentNames (now (names .entry)) (now (renames .entry)) (now (renamed .entry)) p) p name) r ⌝ }
+{
+    if pad::pad_bool(renamed, p) {
+        pad::named(renames, p, name)
+    } else {
+        pad::named(names, p, name)
+    }
+}
+
+// The place of the partner's present code.
+pub fn partner_place<'a>(
+    names: &'a [u8; 208],
+    renames: &'a [u8; 208],
+    renamed: &'a [bool; 4],
+    p: u8,
+    name: u8,
+) -> usize
+    ensures { λ r. ⌜ PlaceIs (partnerPlaceOf (now (names .entry)) (now (renames .entry)) (now (renamed .entry)) p name) r ⌝ }
+{
+    let partner = names::partner_of(name);
+    if partner == 0 {
+        pad::NOWHERE
+    } else {
+        present_place(names, renames, renamed, p, partner)
+    }
+}
+
+// Where an axis's deadzone flag stands.
+pub fn flag_place(p: u8, name: u8) -> usize
+    ensures { λ r. ⌜ r ≡ flagPlace p name ⌝ }
+{
+    let flag = names::flag_of(name) as usize;
+    if PADS <= p {
+        return NO_FLAG;
+    }
+    if flag < FLAGS_PER_PAD {
+        FLAGS_PER_PAD * (p as usize) + flag
+    } else {
+        NO_FLAG
+    }
+}
+
+// Whether a pad converts at present.
+pub fn converts_now<'a>(
+    renamed: &'a [bool; 4],
+    converts: &'a [bool; 4],
+    reconverts: &'a [bool; 4],
+    p: u8,
+) -> bool
+    ensures { λ r. ⌜ r ≡ convertsIn (now (renamed .entry)) (now (converts .entry)) (now (reconverts .entry)) p ⌝ }
+{
+    if pad::pad_bool(renamed, p) {
+        pad::pad_bool(reconverts, p)
+    } else {
+        pad::pad_bool(converts, p)
+    }
+}
+
+// ---- what the filters see
+
+// The places that the filters look at for an event: its own, the two directions of a hat's axis, the partner; and where the two flags stand.
+pub struct Sight {
+    pub own: Cell,
+    pub positive: Cell,
+    pub negative: Cell,
+    pub partner: Cell,
+    pub code: u32,
+    pub converts: bool,
+    pub dead: bool,
+    pub flag: usize,
+    pub other: usize,
+    pub flags: Flags,
+}
+
+pub fn sighted<'a>(
+    codes: &'a [u32; 208],
+    kinds: &'a [u8; 208],
+    names: &'a [u8; 208],
+    renames: &'a [u8; 208],
+    renamed: &'a [bool; 4],
+    converts: &'a [bool; 4],
+    reconverts: &'a [bool; 4],
+    touched: &'a [bool; 208],
+    moved: &'a [bool; 208],
+    flags: &'a [bool; 24],
+    p: u8,
+    name: u8,
+    code: u32,
+) -> Sight
+    ensures { λ r. ⌜ SightIs (now (codes .entry)) (now (kinds .entry)) (now (names .entry)) (now (renames .entry)) (now (renamed .entry)) (now (converts .entry)) (now (reconverts .entry)) (now (touched .entry)) (now (moved .entry)) (now (flags .entry)) p name code r ⌝ }
+{
+    let own = pad::place_of(codes, p, code);
+    let positive = hat_place(codes, p, name, names::positive_code(name));
+    let negative = hat_place(codes, p, name, names::negative_code(name));
+    let partner = partner_place(names, renames, renamed, p, name);
+    let flag = flag_place(p, name);
+    let other = flag_place(p, names::partner_of(name));
+    Sight {
+        own: cell_at(touched, moved, own),
+        positive: cell_at(touched, moved, positive),
+        negative: cell_at(touched, moved, negative),
+        partner: cell_at(touched, moved, partner),
+        code: pad::code_at(codes, partner),
+        converts: converts_now(renamed, converts, reconverts, p),
+        dead: pad::kind_at(kinds, own) == ELEMENT_AXIS,
+        flag: flag,
+        other: other,
+        flags: Flags {
+            own: pad::flag_at(flags, flag),
+            partner: pad::flag_at(flags, other),
+        },
+    }
+}
+
+// The view, with what stands at the places: the own element and records, the two directions' button records, the partner's records.
+pub fn view_of(
+    s: Sight,
+    element: Element,
+    b: ButtonData,
+    a: AxisData,
+    plus: ButtonData,
+    minus: ButtonData,
+    partnerbutton: ButtonData,
+    partneraxis: AxisData,
+) -> View
+    ensures { λ r. ⌜ r ≡ viewBy s element b a plus minus partnerbutton partneraxis ⌝ }
+{
+    let own = s.own;
+    let positive = s.positive;
+    let negative = s.negative;
+    let partner = s.partner;
+    let flags = s.flags;
+    View {
+        converts: s.converts,
+        positive: state::read_pressed(positive.touched, plus),
+        negative: state::read_pressed(negative.touched, minus),
+        stored: own.moved,
+        stick: a.value,
+        dead: s.dead,
+        threshold: element.threshold,
+        own: state::read_value(own.moved, a, own.touched, b),
+        partner: Partner {
+            stands: partner.place < pad::NOWHERE,
+            code: s.code,
+            value: state::read_value(partner.moved, partneraxis, partner.touched, partnerbutton),
+        },
+        flags: flags,
+    }
+}

@@ -1,0 +1,27 @@
+-- What the lookups of `pad` answer: the place that the law book defines, and its bound, which callers index by. Definitions only. Assumes nothing.
+use Prim.Native.Nat.{ℕ, _*_, _+_, _≤_}
+use mathlib.Core.List.{List}
+use mathlib.Core.Path.{_≡_}
+use Rattle.rules.specs.Names.{placesPerPad, nowhere}
+use Rattle.rules.specs.Places.{halvings, seekOf, scanOf, placeOf, namedOf}
+
+-- the place of a code
+pub record Placed (codes : List ℕ) (pad code r : ℕ) : Type 0 where
+  pub is : r ≡ placeOf codes pad code
+  pub small : r ≤ nowhere
+
+-- the place of a name
+pub record Named (names : List ℕ) (pad name r : ℕ) : Type 0 where
+  pub is : r ≡ namedOf names pad name
+  pub small : r ≤ nowhere
+
+-- what the halving search finds among the 52 places from start on
+pub record Sought (codes : List ℕ) (start code r : ℕ) : Type 0 where
+  pub is : r ≡ seekOf halvings codes start placesPerPad code
+  pub from : start ≤ r
+  pub to : r ≤ start + placesPerPad
+
+-- what the scan finds among the 52 places from start on
+pub record Scanned (names : List ℕ) (start name r : ℕ) : Type 0 where
+  pub is : r ≡ scanOf names placesPerPad start name
+  pub small : r ≤ nowhere

@@ -1,0 +1,242 @@
+// A pad's 52 places: where a code or a name stands, whether a pad converts, and the columns read and marked at any index. Every function takes any
+// column and any number, and answers what its definition in the law book says.
+ghost use mathlib.Core.Path.{_≡_};
+ghost use mathlib.Core.Bool.{true, false};
+ghost use Prim.Native.Nat.{_+_, _≤_};
+ghost use lib.ListN.{getD, set};
+ghost use Rattle.rules.specs.Names.{noName, placesPerPad, nowhere};
+ghost use Rattle.rules.specs.Places.{codeNamed, directionNamed, convertsOf, clearedOf};
+ghost use Rattle.pad.specs.Found.{Placed, Named, Sought, Scanned};
+
+const PADS: u8 = 4;
+
+const PLACES_PER_PAD: usize = 52;
+// The place of a code or a name that is not there: one past the last pad's places.
+pub const NOWHERE: usize = 208;
+
+const ALL_HATS: u8 = 15;
+
+// ---- the place of a code
+
+// The halving search: on codes that do not fall, the first of the 52 places whose code is not below the one asked for.
+fn seek(codes: &[u32; 208], start: usize, code: u32) -> usize
+    requires { ⌜ start + placesPerPad ≤ nowhere ⌝ }
+    ensures { λ r. ⌜ Sought (now (codes .entry)) start code r ⌝ }
+{
+    let mut lo = start;
+    let mut n = PLACES_PER_PAD;
+    while 0 < n {
+        let half = n / 2;
+        let middle = lo + half;
+        if codes[middle] < code {
+            lo = middle + 1;
+            n = n - half - 1;
+        } else {
+            n = half;
+        }
+    }
+    lo
+}
+
+// The place of a code: one of the pad's that has it, or `NOWHERE`.
+pub fn place_of(codes: &[u32; 208], pad: u8, code: u32) -> usize
+    ensures { λ r. ⌜ Placed (now (codes .entry)) pad code r ⌝ }
+{
+    if PADS <= pad {
+        return NOWHERE;
+    }
+    let start = PLACES_PER_PAD * pad as usize;
+    let place = seek(codes, start, code);
+    if start + PLACES_PER_PAD <= place {
+        return NOWHERE;
+    }
+    if codes[place] == code { place } else { NOWHERE }
+}
+
+// ---- the place of a name
+
+// The first of the 52 places that has the name, or `NOWHERE`.
+fn scan(names: &[u8; 208], start: usize, name: u8) -> usize
+    requires { ⌜ start + placesPerPad ≤ nowhere ⌝ }
+    ensures { λ r. ⌜ Scanned (now (names .entry)) start name r ⌝ }
+{
+    let mut place = start;
+    let mut left = PLACES_PER_PAD;
+    while 0 < left {
+        if names[place] == name {
+            return place;
+        }
+        place = place + 1;
+        left = left - 1;
+    }
+    NOWHERE
+}
+
+// The place of a name: the first of the pad's that has it, or `NOWHERE`.
+pub fn named(names: &[u8; 208], pad: u8, name: u8) -> usize
+    ensures { λ r. ⌜ Named (now (names .entry)) pad name r ⌝ }
+{
+    if PADS <= pad {
+        return NOWHERE;
+    }
+    scan(names, PLACES_PER_PAD * pad as usize, name)
+}
+
+// ---- columns read at any index
+
+// Behind a part of a known length stands the whole column: these serve each length.
+
+fn bool_in(marks: &[bool], at: usize) -> bool
+    ensures { λ r. ⌜ r ≡ getD (now (marks .entry)) at false ⌝ }
+{
+    if at < marks.len() { marks[at] } else { false }
+}
+
+fn byte_in(bytes: &[u8], at: usize, none: u8) -> u8
+    ensures { λ r. ⌜ r ≡ getD (now (bytes .entry)) at none ⌝ }
+{
+    if at < bytes.len() { bytes[at] } else { none }
+}
+
+fn code_in(codes: &[u32], at: usize) -> u32
+    ensures { λ r. ⌜ r ≡ getD (now (codes .entry)) at 0 ⌝ }
+{
+    if at < codes.len() { codes[at] } else { 0 }
+}
+
+pub fn bool_at(marks: &[bool; 208], place: usize) -> bool
+    ensures { λ r. ⌜ r ≡ getD (now (marks .entry)) place false ⌝ }
+{
+    bool_in(marks, place)
+}
+
+pub fn kind_at(kinds: &[u8; 208], place: usize) -> u8
+    ensures { λ r. ⌜ r ≡ getD (now (kinds .entry)) place 0 ⌝ }
+{
+    byte_in(kinds, place, 0)
+}
+
+pub fn name_at(names: &[u8; 208], place: usize) -> u8
+    ensures { λ r. ⌜ r ≡ getD (now (names .entry)) place noName ⌝ }
+{
+    byte_in(names, place, names::NO_NAME)
+}
+
+pub fn code_at(codes: &[u32; 208], place: usize) -> u32
+    ensures { λ r. ⌜ r ≡ getD (now (codes .entry)) place 0 ⌝ }
+{
+    code_in(codes, place)
+}
+
+pub fn flag_at(flags: &[bool; 24], at: usize) -> bool
+    ensures { λ r. ⌜ r ≡ getD (now (flags .entry)) at false ⌝ }
+{
+    bool_in(flags, at)
+}
+
+pub fn pad_bool(marks: &[bool; 4], pad: u8) -> bool
+    ensures { λ r. ⌜ r ≡ getD (now (marks .entry)) pad false ⌝ }
+{
+    bool_in(marks, pad as usize)
+}
+
+pub fn pad_number(numbers: &[u8; 4], pad: u8) -> u8
+    ensures { λ r. ⌜ r ≡ getD (now (numbers .entry)) pad 0 ⌝ }
+{
+    byte_in(numbers, pad as usize, 0)
+}
+
+// ---- columns marked at any index: past the end nothing happens
+
+fn mark_in(marks: &mut [bool], at: usize, v: bool)
+    ensures { λ r. ⌜ now (marks .exit) ≡ set (now (marks .entry)) at v ⌝ }
+{
+    if at < marks.len() {
+        marks[at] = v;
+    }
+}
+
+pub fn mark(marks: &mut [bool; 208], place: usize, v: bool)
+    ensures { λ r. ⌜ now (marks .exit) ≡ set (now (marks .entry)) place v ⌝ }
+{
+    mark_in(marks, place, v)
+}
+
+pub fn mark_flag(flags: &mut [bool; 24], at: usize, v: bool)
+    ensures { λ r. ⌜ now (flags .exit) ≡ set (now (flags .entry)) at v ⌝ }
+{
+    mark_in(flags, at, v)
+}
+
+pub fn mark_pad(marks: &mut [bool; 4], pad: u8, v: bool)
+    ensures { λ r. ⌜ now (marks .exit) ≡ set (now (marks .entry)) pad v ⌝ }
+{
+    mark_in(marks, pad as usize, v)
+}
+
+// The n marks from start on are taken off, as far as there are any.
+fn clear_in(marks: &mut [bool], start: usize, n: usize)
+    ensures { λ r. ⌜ now (marks .exit) ≡ clearedOf (now (marks .entry)) start n ⌝ }
+{
+    let mut at = start;
+    let mut left = n;
+    while 0 < left {
+        if marks.len() <= at {
+            return;
+        }
+        marks[at] = false;
+        at = at + 1;
+        left = left - 1;
+    }
+}
+
+pub fn clear(marks: &mut [bool; 208], start: usize, n: usize)
+    ensures { λ r. ⌜ now (marks .exit) ≡ clearedOf (now (marks .entry)) start n ⌝ }
+{
+    clear_in(marks, start, n)
+}
+
+pub fn clear_flags(flags: &mut [bool; 24], start: usize, n: usize)
+    ensures { λ r. ⌜ now (flags .exit) ≡ clearedOf (now (flags .entry)) start n ⌝ }
+{
+    clear_in(flags, start, n)
+}
+
+// ---- "A pad converts if hats is 15, or hats is 0 and no direction code is named and no element is named DPadRight"
+
+fn code_named<'a>(codes: &'a [u32; 208], names: &'a [u8; 208], pad: u8, code: u32) -> bool
+    ensures { λ r. ⌜ r ≡ codeNamed (now (codes .entry)) (now (names .entry)) pad code ⌝ }
+{
+    let place = place_of(codes, pad, code);
+    name_at(names, place) != names::NO_NAME
+}
+
+fn direction_named<'a>(codes: &'a [u32; 208], names: &'a [u8; 208], pad: u8) -> bool
+    ensures { λ r. ⌜ r ≡ directionNamed (now (codes .entry)) (now (names .entry)) pad ⌝ }
+{
+    if code_named(codes, names, pad, names::CODE_RIGHT) {
+        return true;
+    }
+    if code_named(codes, names, pad, names::CODE_LEFT) {
+        return true;
+    }
+    if code_named(codes, names, pad, names::CODE_DOWN) {
+        return true;
+    }
+    code_named(codes, names, pad, names::CODE_UP)
+}
+
+pub fn converts<'a>(hats: u8, codes: &'a [u32; 208], names: &'a [u8; 208], pad: u8) -> bool
+    ensures { λ r. ⌜ r ≡ convertsOf hats (now (codes .entry)) (now (names .entry)) pad ⌝ }
+{
+    if hats == ALL_HATS {
+        return true;
+    }
+    if hats != 0 {
+        return false;
+    }
+    if direction_named(codes, names, pad) {
+        return false;
+    }
+    named(names, pad, names::DPAD_RIGHT) == NOWHERE
+}

@@ -1,0 +1,242 @@
+// The refusals of document 01 by number: the first that holds in its order, 0 for none. Each function equals its definition in the law book for every
+// input.
+ghost use mathlib.Core.Path.{_≡_};
+ghost use Rattle.rules.specs.Refusals.{inUnit, thresholdsRefusal, standsOf, valueFits, timeFits, elementRefusal, fieldsRefusal, recordRefusal};
+ghost use Rattle.rules.specs.Refusals.{codeRefusal, formRefusal, insertRefusal, pumpRefusal, repeatRefusal};
+ghost use Rattle.rules.specs.Refusals.{buttonQueryRefusal, axisQueryRefusal, nameQueryRefusal, unlessFits};
+ghost use Rattle.rules.specs.Refusals as Refusals;
+ghost use mathlib.Core.Bool.{cond, _&&_, _||_};
+ghost use lib.Dec.{eqb};
+use rules::EventForm;
+use rules::Looked;
+use rules::RawRecord;
+
+const PADS: u8 = 4;
+
+const NOWHERE: usize = 208;
+
+const LAST_TIME: u64 = 0x3fff_ffff_ffff_ffff;
+
+const LAST_WAIT: u64 = 60_000_000;
+
+const BUFFER_LIMIT: usize = 16_384;
+
+const INSERT_LIMIT: u8 = 16;
+
+// kinds of raw records and of events up to which a code is carried
+const KIND_AXIS: u8 = 3;
+
+const EVENT_AXIS: u8 = 5;
+
+// kinds of elements
+const ELEMENT_BUTTON: u8 = 1;
+
+const ELEMENT_AXIS: u8 = 2;
+
+// ---- two tests at once, and a choice, as values: a branch would leave two ways to the same place
+
+fn both(a: bool, b: bool) -> bool
+    ensures { λ r. ⌜ r ≡ (a && b) ⌝ }
+{
+    if a { b } else { false }
+}
+
+fn either(a: bool, b: bool) -> bool
+    ensures { λ r. ⌜ r ≡ (a || b) ⌝ }
+{
+    if a { true } else { b }
+}
+
+fn chosen(test: bool, number: u8, other: u8) -> u8
+    ensures { λ r. ⌜ r ≡ cond test number other ⌝ }
+{
+    if test { number } else { other }
+}
+
+// ---- in order: a number where the input does not fit, and the first number that there is
+
+fn unless_fits(fits: bool, number: u8) -> u8
+    ensures { λ r. ⌜ r ≡ unlessFits fits number ⌝ }
+{
+    if fits { 0 } else { number }
+}
+
+fn first(a: u8, b: u8) -> u8
+    ensures { λ r. ⌜ r ≡ Refusals.first a b ⌝ }
+{
+    if a == 0 { b } else { a }
+}
+
+// ---- 1
+
+fn in_unit(x: f32) -> bool
+    ensures { λ r. ⌜ r ≡ inUnit x ⌝ }
+{
+    both(0.0 <= x, x <= 1.0)
+}
+
+pub fn thresholds_refusal(pressed: f32, released: f32) -> u8
+    ensures { λ r. ⌜ r ≡ thresholdsRefusal pressed released ⌝ }
+{
+    chosen(
+        both(
+            in_unit(pressed),
+            both(in_unit(released), released < pressed),
+        ),
+        0,
+        1,
+    )
+}
+
+// ---- 6
+
+pub fn stands(pads: u8, p: u8) -> bool
+    ensures { λ r. ⌜ r ≡ standsOf pads p ⌝ }
+{
+    both(p < pads, p < PADS)
+}
+
+// ---- 11 and 12
+
+pub fn value_fits(bits: u32) -> bool
+    ensures { λ r. ⌜ r ≡ valueFits bits ⌝ }
+{
+    bits % 0x8000_0000 <= 0x3f80_0000
+}
+
+pub fn time_fits(time: u64) -> bool
+    ensures { λ r. ⌜ r ≡ timeFits time ⌝ }
+{
+    time <= LAST_TIME
+}
+
+// ---- records: 8, 6, 9, 10, 11, 12
+
+// The kind of element that a record speaks of.
+fn spoken(kind: u8) -> u8
+    ensures { λ r. ⌜ r ≡ cond (eqb kind 3) 2 1 ⌝ }
+{
+    chosen(kind == KIND_AXIS, ELEMENT_AXIS, ELEMENT_BUTTON)
+}
+
+fn element_refusal(recordkind: u8, kind: u8) -> u8
+    ensures { λ r. ⌜ r ≡ elementRefusal recordkind kind ⌝ }
+{
+    chosen(
+        KIND_AXIS < recordkind,
+        0,
+        chosen(kind == 0, 9, chosen(kind == spoken(recordkind), 0, 10)),
+    )
+}
+
+pub fn fields_refusal(raw: RawRecord, pads: u8, kind: u8) -> u8
+    ensures { λ r. ⌜ r ≡ fieldsRefusal raw pads kind ⌝ }
+{
+    first(
+        unless_fits(stands(pads, raw.pad), 6),
+        first(
+            element_refusal(raw.kind, kind),
+            first(
+                unless_fits(scale::within(raw.value), 11),
+                unless_fits(time_fits(raw.time), 12),
+            ),
+        ),
+    )
+}
+
+pub fn record_refusal(l: Looked, pads: u8, kind: u8) -> u8
+    ensures { λ r. ⌜ r ≡ recordRefusal l pads kind ⌝ }
+{
+    let raw = l.raw;
+    first(unless_fits(l.fits, 8), fields_refusal(raw, pads, kind))
+}
+
+// ---- events: 8 by the reader, then 6, 9, 11, 12, and 13 for an insert
+
+fn code_refusal(kind: u8, place: usize) -> u8
+    ensures { λ r. ⌜ r ≡ codeRefusal kind place ⌝ }
+{
+    chosen(EVENT_AXIS < kind, 0, unless_fits(place < NOWHERE, 9))
+}
+
+pub fn form_refusal(f: EventForm, pads: u8, place: usize) -> u8
+    ensures { λ r. ⌜ r ≡ formRefusal f pads place ⌝ }
+{
+    first(
+        unless_fits(stands(pads, f.pad), 6),
+        first(
+            code_refusal(f.kind, place),
+            first(
+                unless_fits(value_fits(f.bits), 11),
+                unless_fits(time_fits(f.time), 12),
+            ),
+        ),
+    )
+}
+
+pub fn insert_refusal(f: EventForm, pads: u8, place: usize, waiting: u8) -> u8
+    ensures { λ r. ⌜ r ≡ insertRefusal f pads place waiting ⌝ }
+{
+    first(
+        form_refusal(f, pads, place),
+        unless_fits(waiting < INSERT_LIMIT, 13),
+    )
+}
+
+// ---- the pump: 14, then 8 for a place past the end
+
+pub fn pump_refusal(batch: usize, out: usize, place: usize) -> u8
+    ensures { λ r. ⌜ r ≡ pumpRefusal batch out place ⌝ }
+{
+    chosen(
+        either(BUFFER_LIMIT < batch, BUFFER_LIMIT < out),
+        14,
+        chosen(batch < place, 8, 0),
+    )
+}
+
+// ---- repeat: 15, 12
+
+pub fn repeat_refusal(after: u64, every: u64, now: u64) -> u8
+    ensures { λ r. ⌜ r ≡ repeatRefusal after every now ⌝ }
+{
+    let fits = both(after <= LAST_WAIT, both(1 <= every, every <= LAST_WAIT));
+    first(unless_fits(fits, 15), unless_fits(time_fits(now), 12))
+}
+
+// ---- queries: 6, 16
+
+pub fn pad_refusal(pads: u8, p: u8) -> u8
+    ensures { λ r. ⌜ r ≡ unlessFits (standsOf pads p) 6 ⌝ }
+{
+    unless_fits(stands(pads, p), 6)
+}
+
+// 6, then 16 where the name is not of the sort asked.
+fn named_refusal(pads: u8, p: u8, sort: bool) -> u8
+    ensures { λ r. ⌜ r ≡ Refusals.first (unlessFits (standsOf pads p) 6) (unlessFits sort 16) ⌝ }
+{
+    first(unless_fits(stands(pads, p), 6), unless_fits(sort, 16))
+}
+
+pub fn button_query_refusal(pads: u8, p: u8, name: u8) -> u8
+    ensures { λ r. ⌜ r ≡ buttonQueryRefusal pads p name ⌝ }
+{
+    named_refusal(pads, p, names::names_button(name))
+}
+
+pub fn axis_query_refusal(pads: u8, p: u8, name: u8) -> u8
+    ensures { λ r. ⌜ r ≡ axisQueryRefusal pads p name ⌝ }
+{
+    named_refusal(pads, p, names::names_axis(name))
+}
+
+pub fn name_query_refusal(pads: u8, p: u8, name: u8) -> u8
+    ensures { λ r. ⌜ r ≡ nameQueryRefusal pads p name ⌝ }
+{
+    named_refusal(
+        pads,
+        p,
+        either(names::names_button(name), names::names_axis(name)),
+    )
+}

@@ -1,0 +1,135 @@
+// The records of a code after an event, and what is read of them: 000's `GamepadState`.
+ghost use mathlib.Core.Path.{_≡_};
+ghost use mathlib.Core.Bool.{cond};
+ghost use Rattle.rules.specs.State.{buttonAfter, axisAfter, writesButton, writesAxis, readPressed, readValue};
+use rules::AxisData;
+use rules::ButtonData;
+use rules::Event;
+use rules::EventType;
+
+// ---- a new record and a known one
+
+// what a known record keeps, and what a new one starts from
+fn kept_value(known: bool, kept: f32, fresh: f32) -> f32
+    ensures { λ r. ⌜ r ≡ cond known kept fresh ⌝ }
+{
+    if known { kept } else { fresh }
+}
+
+fn kept_mark(known: bool, kept: bool, fresh: bool) -> bool
+    ensures { λ r. ⌜ r ≡ cond known kept fresh ⌝ }
+{
+    if known { kept } else { fresh }
+}
+
+// ---- the button record: 000's `set_btn_pressed`, `set_btn_repeating`, `set_btn_value`
+
+pub fn button_after(e: Event, known: bool, b: ButtonData, counter: u64) -> ButtonData
+    ensures { λ r. ⌜ r ≡ buttonAfter e known b counter ⌝ }
+{
+    let t = e.event;
+    match t {
+        EventType::Pressed(_, _) => ButtonData {
+            value: kept_value(known, b.value, 1.0),
+            stamp: e.time,
+            counter: counter,
+            pressed: true,
+            repeating: false,
+        },
+        EventType::Released(_, _) => ButtonData {
+            value: kept_value(known, b.value, 0.0),
+            stamp: e.time,
+            counter: counter,
+            pressed: false,
+            repeating: false,
+        },
+        EventType::Repeated(_, _) => ButtonData {
+            value: kept_value(known, b.value, 1.0),
+            stamp: e.time,
+            counter: counter,
+            pressed: kept_mark(known, b.pressed, true),
+            repeating: true,
+        },
+        EventType::Changed(_, _, v) => ButtonData {
+            value: v,
+            stamp: e.time,
+            counter: counter,
+            pressed: kept_mark(known, b.pressed, false),
+            repeating: kept_mark(known, b.repeating, false),
+        },
+        EventType::Axis(_, _, _) => b,
+        EventType::Connected => b,
+        EventType::Disconnected => b,
+        EventType::Dropped => b,
+    }
+}
+
+pub fn writes_button(e: Event) -> bool
+    ensures { λ r. ⌜ r ≡ writesButton e ⌝ }
+{
+    let t = e.event;
+    match t {
+        EventType::Pressed(_, _) => true,
+        EventType::Released(_, _) => true,
+        EventType::Repeated(_, _) => true,
+        EventType::Changed(_, _, _) => true,
+        EventType::Axis(_, _, _) => false,
+        EventType::Connected => false,
+        EventType::Disconnected => false,
+        EventType::Dropped => false,
+    }
+}
+
+// ---- the axis record: 000's `update_axis`
+
+pub fn axis_after(e: Event, a: AxisData, counter: u64) -> AxisData
+    ensures { λ r. ⌜ r ≡ axisAfter e a counter ⌝ }
+{
+    let t = e.event;
+    match t {
+        EventType::Axis(_, _, v) => AxisData {
+            value: v,
+            stamp: e.time,
+            counter: counter,
+        },
+        EventType::Pressed(_, _) => a,
+        EventType::Released(_, _) => a,
+        EventType::Repeated(_, _) => a,
+        EventType::Changed(_, _, _) => a,
+        EventType::Connected => a,
+        EventType::Disconnected => a,
+        EventType::Dropped => a,
+    }
+}
+
+pub fn writes_axis(e: Event) -> bool
+    ensures { λ r. ⌜ r ≡ writesAxis e ⌝ }
+{
+    let t = e.event;
+    match t {
+        EventType::Axis(_, _, _) => true,
+        EventType::Pressed(_, _) => false,
+        EventType::Released(_, _) => false,
+        EventType::Repeated(_, _) => false,
+        EventType::Changed(_, _, _) => false,
+        EventType::Connected => false,
+        EventType::Disconnected => false,
+        EventType::Dropped => false,
+    }
+}
+
+// ---- reads
+
+// pressed by code reads the button record alone: 000's `is_pressed`
+pub fn read_pressed(known: bool, b: ButtonData) -> bool
+    ensures { λ r. ⌜ r ≡ readPressed known b ⌝ }
+{
+    kept_mark(known, b.pressed, false)
+}
+
+// "Reading a code looks at axes first": 000's `value`
+pub fn read_value(axisknown: bool, a: AxisData, buttonknown: bool, b: ButtonData) -> f32
+    ensures { λ r. ⌜ r ≡ readValue axisknown a buttonknown b ⌝ }
+{
+    kept_value(axisknown, a.value, kept_value(buttonknown, b.value, 0.0))
+}

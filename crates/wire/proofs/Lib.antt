@@ -1,0 +1,3 @@
+pub mod Widths
+pub mod Whole
+pub mod Copied

@@ -1,0 +1,12 @@
+-- `wire::time_fits` meets its contract: the test is the definition. Assumes nothing.
+use mathlib.Core.Path.{refl}
+use Rattle.rules.specs.Refusals.{timeFits}
+use Rattle.wire.proofs.time_fits.Statement.{statement}
+use Rattle.wire.proofs.time_fits.Tie as tie
+
+returns : tie.Need-returns
+unfolding timeFits
+returns c = refl
+
+pub time-fits-spec : {M : Type 1} → statement M
+time-fits-spec = tie.close (tie.spec returns)

@@ -1,0 +1,344 @@
+//! Random scenarios. Each is played while it is made, so that a later pump can go on at the place where an earlier one
+//! stopped, and a repeat can be given back to `update`.
+
+use crate::pads;
+use crate::play;
+use crate::random::Random;
+use crate::traffic::Traffic;
+use reading::bytes::put;
+use reading::event::Event;
+use reading::sheet::Sheet;
+use reading::{names, scenario, Desk, LAST_TIME, LONGEST_BUFFER, LONGEST_REPEAT, MOST_PADS};
+
+struct Scene<'a> {
+    random: &'a mut Random,
+    desk: Option<Box<dyn Desk>>,
+    bytes: Vec<u8>,
+    traffic: Traffic,
+    /// Register operations to come, and rename operations.
+    sheets: Vec<Vec<u8>>,
+    renames: Vec<Vec<u8>>,
+    /// The last batch, and the place that its pump answered.
+    batch: Vec<u8>,
+    place: usize,
+}
+
+/// One scenario, from its `new` to its last dump.
+pub fn scene(random: &mut Random) -> Vec<u8> {
+    let traffic = Traffic::new(random);
+    let (sheets, renames) = preparation(random);
+    let mut scene =
+        Scene { random, desk: None, bytes: Vec::new(), traffic, sheets, renames, batch: Vec::new(), place: 0 };
+    scene.open();
+    // without a hub every answer is the same
+    let most = if scene.desk.is_some() { 30 } else { 5 };
+    let calls = scene.random.between(4, most);
+    for _ in 0..calls {
+        scene.call();
+    }
+    scene.pump_rest();
+    for _ in 0..scene.random.below(8) {
+        scene.query();
+    }
+    scene.play(scenario::DUMP, &[]);
+    scene.bytes
+}
+
+/// The payloads of the register operations, damaged ones and a fifth pad among them, and of the rename operations.
+fn preparation(random: &mut Random) -> (Vec<Vec<u8>>, Vec<Vec<u8>>) {
+    let wanted = random.among(&[1, 1, 1, 2, 2, 3, 4, 5]);
+    let mut good: Vec<Sheet> = Vec::new();
+    let mut sheets = Vec::new();
+    while good.len() < wanted {
+        if random.chance(12) {
+            sheets.push(pads::damaged_sheet(random));
+        } else {
+            good.push(pads::sheet(random));
+            sheets.push(good[good.len() - 1].to_bytes());
+        }
+    }
+    let mut renames = Vec::new();
+    for _ in 0..random.below(4) {
+        let pad = random.below(good.len().min(MOST_PADS) as u64) as usize;
+        let mut payload = vec![pad as u8];
+        payload.extend(pads::rename_list(random, &good[pad]));
+        if random.chance(5) {
+            payload[0] = random.among(&[4, 255]);
+        }
+        renames.push(payload);
+    }
+    // a damaged sheet may still be a good one, and shift the pads' numbers: then the lists meet other sheets
+    (sheets, renames)
+}
+
+impl Scene<'_> {
+    /// Writes one operation down and plays it.
+    fn play(&mut self, opcode: u8, payload: &[u8]) -> Vec<String> {
+        let bytes = scenario::write(opcode, payload);
+        let operations = scenario::read(&bytes).expect("an operation");
+        let lines = match &mut self.desk {
+            Some(desk) => desk.play(&operations[0]),
+            None => Vec::new(),
+        };
+        self.bytes.extend(bytes);
+        lines
+    }
+
+    fn open(&mut self) {
+        let (pressed, released) = thresholds(self.random);
+        let mut payload = Vec::new();
+        put(&mut payload, u64::from(pressed.to_bits()), 4);
+        put(&mut payload, u64::from(released.to_bits()), 4);
+        // filters and updates mostly on, else filters alone more often than not
+        payload.push(self.random.among(&[6, 7, 6, 7, 6, 7, 6, 7, 0, 1, 2, 3, 2, 3, 4, 5]));
+        let mut ahead = Vec::new();
+        self.sheets.iter().for_each(|sheet| ahead.extend(scenario::write(scenario::REGISTER, sheet)));
+        self.renames.iter().for_each(|list| ahead.extend(scenario::write(scenario::RENAME, list)));
+        let operations = scenario::read(&ahead).expect("operations");
+        let settings = scenario::Settings { pressed, released, flags: payload[8] };
+        self.desk = play::open(settings, &operations, false);
+        self.bytes = scenario::write(scenario::NEW, &payload);
+        self.sheets.reverse();
+        // most pads stand from the start, some are registered in the middle; rarely none stands at first
+        while !self.sheets.is_empty() && self.random.chance(if self.traffic.pads.is_empty() { 98 } else { 90 }) {
+            self.register();
+        }
+    }
+
+    fn register(&mut self) {
+        if let Some(sheet) = self.sheets.pop() {
+            let lines = self.play(scenario::REGISTER, &sheet);
+            if lines.first().map_or(false, |line| line.starts_with("PAD")) {
+                self.traffic.pads.extend(Sheet::read(&sheet).ok());
+            }
+        }
+    }
+
+    fn call(&mut self) {
+        match self.random.below(100) {
+            0..=39 => self.pump(),
+            40..=57 => self.query(),
+            58..=59 => self.clear(),
+            60..=69 => self.give(scenario::INSERT),
+            70..=77 => self.give(scenario::UPDATE),
+            78..=84 => self.repeat(),
+            85..=89 => self.count(),
+            90..=93 => self.rename(),
+            94..=95 => self.register(),
+            96 => (0..self.random.between(10, 24)).for_each(|_| self.give(scenario::INSERT)),
+            97 => self.clear(),
+            _ => {
+                self.play(scenario::WAITING, &[]);
+            }
+        }
+    }
+
+    fn give(&mut self, opcode: u8) {
+        let event = self.traffic.event_bytes(self.random);
+        self.play(opcode, &event);
+    }
+
+    /// A pair of axes that clear each other, pumped a few steps at a time with a look at the flags in between.
+    fn clear(&mut self) {
+        for event in self.traffic.clearing(self.random) {
+            self.play(scenario::INSERT, &event.to_bytes());
+        }
+        self.batch.clear();
+        for allowance in [2, 1, 2] {
+            self.place = 0;
+            self.pump_with(LONGEST_BUFFER, allowance);
+            self.play(scenario::DUMP, &[]);
+        }
+    }
+
+    fn rename(&mut self) {
+        if let Some(list) = self.renames.pop() {
+            self.play(scenario::RENAME, &list);
+        }
+    }
+
+    /// A pump: a fresh batch, or the last one from where it stopped or from anywhere.
+    fn pump(&mut self) {
+        let unfinished = self.place < self.batch.len();
+        if !(unfinished && self.random.chance(60)) {
+            self.batch = self.fresh_batch();
+            self.place = 0;
+        }
+        if self.random.chance(4) {
+            let length = self.batch.len();
+            self.place = self.random.among(&[length, length + 1, length / 2, 21, 1, 0xffff_ffff]);
+        }
+        let out = match self.random.below(10) {
+            0 => self.random.among(&[0, 21, 22, 23, 43, 44]),
+            1 | 2 => self.random.between(22, 220) as usize,
+            3 if self.random.chance(10) => LONGEST_BUFFER + 1,
+            _ => LONGEST_BUFFER,
+        };
+        let allowance = match self.random.below(10) {
+            0 => self.random.between(0, 3) as u64,
+            1 | 2 => self.random.between(1, 30) as u64,
+            _ => 65_535,
+        };
+        self.pump_with(out, allowance);
+    }
+
+    fn fresh_batch(&mut self) -> Vec<u8> {
+        let records = match self.random.below(1_200) {
+            0 => 780,
+            1 => 781,
+            2..=120 => 0,
+            121..=720 => self.random.between(1, 6),
+            _ => self.random.between(5, 30),
+        };
+        let mut batch = Vec::new();
+        for _ in 0..records {
+            batch.extend(self.traffic.record_bytes(self.random));
+        }
+        if records < 780 && self.random.chance(2) {
+            batch.truncate(batch.len() - batch.len().min(5));
+        }
+        batch
+    }
+
+    fn pump_with(&mut self, out: usize, allowance: u64) {
+        let mut payload = Vec::new();
+        put(&mut payload, self.place as u64, 4);
+        put(&mut payload, out as u64, 4);
+        put(&mut payload, allowance, 2);
+        payload.extend_from_slice(&self.batch);
+        let lines = self.play(scenario::PUMP, &payload);
+        if lines.last().map_or(false, |last| last.starts_with("PAUSED")) && self.random.chance(30) {
+            self.play(scenario::DUMP, &[]);
+        }
+        if let Some(last) = lines.last() {
+            let mut words = last.split(' ').rev();
+            self.place = words.nth(2).and_then(|word| word.parse().ok()).expect("a place");
+            if last.starts_with("REFUSED") {
+                // step over the record, or begin a fresh batch
+                self.place = self.place.saturating_add(21);
+            }
+        }
+    }
+
+    /// Pumps with no more records, so that what waits is served.
+    fn pump_rest(&mut self) {
+        self.batch.clear();
+        self.place = 0;
+        self.pump_with(LONGEST_BUFFER, 65_535);
+    }
+
+    /// Asks for a repeat, up to six times, mostly giving the answer back to `update`.
+    fn repeat(&mut self) {
+        let (after, every) = self.random.among(&[
+            (500_000, 30_000),
+            (500_000, 30_000),
+            (0, 1),
+            (1, LONGEST_REPEAT),
+            (LONGEST_REPEAT, 1),
+            (100_000, 0),
+            (LONGEST_REPEAT + 1, 30_000),
+            (10_000, LONGEST_REPEAT + 1),
+        ]);
+        let now = match self.random.below(12) {
+            0 => LAST_TIME,
+            1 => LAST_TIME + 1,
+            2 => 0,
+            _ => (self.traffic.clock + self.random.among(&[0, 16_000, 499_999, 500_000, 700_000])).min(LAST_TIME),
+        };
+        self.repeat_at(after, every, now);
+    }
+
+    /// After a repeat that is given back, asks again at the same moment, or where the next one is just due or not yet.
+    fn repeat_at(&mut self, after: u64, every: u64, mut now: u64) {
+        for _ in 0..self.random.between(1, 6) {
+            let mut payload = Vec::new();
+            [after, every, now].iter().for_each(|number| put(&mut payload, *number, 8));
+            let lines = self.play(scenario::REPEAT, &payload);
+            let event = match lines.first().and_then(|line| repeated(line)) {
+                Some(event) if self.random.chance(85) => event,
+                _ => break,
+            };
+            self.play(scenario::UPDATE, &event.to_bytes());
+            if self.random.chance(50) {
+                now = (event.time + every - self.random.below(2)).min(LAST_TIME);
+            }
+        }
+    }
+
+    fn count(&mut self) {
+        let choices = [scenario::INC, scenario::INC, scenario::INC, scenario::COUNTER, scenario::RESET_COUNTER];
+        let opcode = self.random.among(&choices);
+        self.play(opcode, &[]);
+    }
+
+    fn query(&mut self) {
+        let first = i64::from(scenario::PRESSED_BY_CODE);
+        let opcode = match self.random.below(5) {
+            0 => scenario::PRESSED_BY_NAME,
+            _ => self.random.between(first, i64::from(scenario::STANDS)) as u8,
+        };
+        let pad = if self.random.chance(95) { self.traffic.pad(self.random) } else { self.random.below(6) as u8 };
+        let mut payload = vec![pad];
+        match opcode {
+            scenario::STANDS => (),
+            scenario::PRESSED_BY_NAME | scenario::BUTTON_BY_NAME => payload.push(self.asked_name(1, 19)),
+            scenario::VALUE_BY_NAME | scenario::AXIS_BY_NAME => payload.push(self.asked_name(33, 40)),
+            scenario::CODE_OF_NAME => payload.push(self.asked_name(1, 40)),
+            _ => {
+                let code = self.traffic.asked_code(self.random, pad);
+                put(&mut payload, u64::from(code), 4);
+            }
+        }
+        self.play(opcode, &payload);
+    }
+
+    /// A name between the two, a direction, or one at an edge of the table.
+    fn asked_name(&mut self, low: i64, high: i64) -> u8 {
+        match self.random.below(10) {
+            0 => self.random.among(&[0, 1, 19, 20, 31, names::UNKNOWN_AXIS, 33, 40, 41, 254, names::NO_NAME]),
+            1..=4 if low == 1 => self.random.between(16, 19) as u8,
+            _ => self.random.between(low, high) as u8,
+        }
+    }
+}
+
+/// Thresholds: the crate's, padlog's, the ends, any pair; one in twenty is refused.
+fn thresholds(random: &mut Random) -> (f32, f32) {
+    if random.chance(5) {
+        return random.among(&[
+            (0.5, 0.5),
+            (0.25, 0.5),
+            (f32::NAN, 0.5),
+            (0.5, f32::NAN),
+            (1.000_000_1, 0.5),
+            (0.5, -0.000_000_1),
+            (0.0, -0.0),
+            (f32::INFINITY, 0.0),
+        ]);
+    }
+    match random.below(5) {
+        0 => random.among(&[(1.0, 0.0), (0.5, -0.0), (1.0, 0.999_999_94), (f32::from_bits(1), 0.0)]),
+        1 => {
+            let released = random.below(1_000) as f32 / 1_000.0;
+            (released + (1.0 - released) / 2.0, released)
+        }
+        2 => (0.75, 0.65),
+        _ => (0.75, 0.5),
+    }
+}
+
+/// The event of a REPEATED line.
+fn repeated(line: &str) -> Option<Event> {
+    let words: Vec<&str> = line.split(' ').collect();
+    if words[0] != "REPEATED" {
+        return None;
+    }
+    Some(Event {
+        kind: reading::event::REPEATED,
+        pad: words[1].parse().ok()?,
+        name: words[2].parse().ok()?,
+        code: u32::from_str_radix(words[3], 16).ok()?,
+        bits: 0,
+        time: words[5].parse().ok()?,
+    })
+}
