@@ -1,27 +1,24 @@
 -- The public calls: new, register, rename, update, insert_event and the counter. Assumes nothing.
 use Prim.Native.Nat.{ℕ, zero, suc}
 use mathlib.Core.Path.{_≡_, refl}
-use mathlib.Core.Bool.{Bool, true, false}
-use mathlib.Core.List.{List, [], _∷_, _++_, map}
-use lib.ListN.{getD, take, drop, replicate}
-use lib.IntN.{ℤ, pos, negsuc}
+use mathlib.Core.Bool.{true, false}
+use mathlib.Core.List.{List, [], _∷_}
+use lib.ListN.{take, replicate}
 use lib.Ieee as Ieee
-use Rattle.numbers.specs.Constants.{zero32, one32}
+use Rattle.numbers.specs.Constants.{one32}
 use Rattle.rules.specs.declared.Hub.{Hub}
 use Rattle.rules.specs.declared.Event.{Event}
-use Rattle.rules.specs.declared.EventType.the-variants.{Pressed, Released, Repeated, Changed, Axis, Connected, Disconnected}
-use Rattle.rules.specs.declared.Answer.{Answer}
+use Rattle.rules.specs.declared.EventType.the-variants.{Pressed, Changed, Axis, Connected, Disconnected}
 use Rattle.rules.specs.declared.Answer.the-variants as answer
-use Rattle.rules.specs.declared.RegisterAnswer.{RegisterAnswer}
 use Rattle.rules.specs.declared.RegisterAnswer.the-variants as registerAnswer
 use Rattle.rules.specs.declared.PumpAnswer.the-variants.{Drained}
-use Rattle.rules.specs.Names.{codeUp, codeLeft, codeRight, dpadLeft, dpadRight}
+use Rattle.rules.specs.Names.{codeUp, codeRight, dpadRight}
 use Rattle.rules.specs.Sheets.{sheetBytes}
-use Rattle.rules.specs.Hub.{placeIn, touchedAt, buttonAt, movedAt, axisAt}
+use Rattle.rules.specs.Hub.{placeIn, touchedAt, movedAt, axisAt}
 use Rattle.rules.specs.Places.{placeOf}
 use Rattle.rules.specs.Calls.{newOf, idleHub, registerOf, renameOf, updateOf, insertOf, incOf, resetOf}
-use Rattle.rules.specs.Examples.Table.{Case, _is_, Right, button, event, half32, threeQuarters32}
-use Rattle.rules.specs.Examples.Desk.{bare, sheet, desk, south, plain, stickX, trigger, hatX, raw, press, move, connect, disconnect, pump, after, tells, told, eventsBytes}
+use Rattle.rules.specs.Examples.Table.{_is_, Right, button, event, half32, threeQuarters32}
+use Rattle.rules.specs.Examples.Desk.{bare, desk, south, stickX, hatX, raw, press, disconnect, pump, after, tells, told, eventsBytes}
 
 -- ---- new
 

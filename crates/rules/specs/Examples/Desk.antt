@@ -2,12 +2,11 @@
 use Prim.Native.Nat.{ℕ, _*_}
 use mathlib.Core.Bool.{Bool, true, false}
 use mathlib.Core.List.{List, [], _∷_, _++_}
-use lib.ListN.{length, take, replicate}
+use lib.ListN.{take, replicate}
 use lib.IntN.{ℤ, pos, negsuc}
 use lib.Ieee as Ieee
 use Rattle.rules.specs.declared.Hub.{Hub}
 use Rattle.rules.specs.declared.Event.{Event}
-use Rattle.rules.specs.declared.EventType.{EventType}
 use Rattle.rules.specs.declared.SheetElement.{SheetElement}
 use Rattle.rules.specs.declared.PumpAnswer.{PumpAnswer}
 use Rattle.rules.specs.Forms.{recordBytes}
@@ -15,7 +14,7 @@ use Rattle.rules.specs.Sheets.{sheetBytes}
 use Rattle.rules.specs.Events.{eventBytes}
 use Rattle.rules.specs.Pump.{Run, pumpOf}
 use Rattle.rules.specs.Calls.{newOf, registerOf, updateOf}
-use Rattle.rules.specs.Examples.Table.{button, axis, event, half32, threeQuarters32}
+use Rattle.rules.specs.Examples.Table.{button, axis, half32, threeQuarters32}
 
 -- ---- the pad
 

@@ -1,10 +1,9 @@
 -- What is read of the hub, and the ring of waiting events. Assumes nothing.
-use Prim.Native.Nat.{ℕ, _+_}
 use mathlib.Core.Path.{_≡_, refl}
-use mathlib.Core.Bool.{Bool, true, false}
-use mathlib.Core.List.{List, [], _∷_, _++_, map}
-use lib.ListN.{getD, set, replicate}
-use lib.IntN.{ℤ, pos, negsuc}
+use mathlib.Core.Bool.{true, false}
+use mathlib.Core.List.{List, [], _∷_}
+use lib.ListN.{set, replicate}
+use lib.IntN.{pos}
 use Rattle.numbers.specs.Constants.{zero32, one32}
 use Rattle.rules.specs.declared.Hub.{Hub}
 use Rattle.rules.specs.declared.Slot.{Slot}
@@ -12,9 +11,9 @@ use Rattle.rules.specs.declared.Event.{Event}
 use Rattle.rules.specs.declared.EventType.the-variants.{Pressed, Axis, Dropped}
 use Rattle.rules.specs.Names.{codeRight}
 use Rattle.rules.specs.Events.{slotOf}
-use Rattle.rules.specs.Hub.{flagPlace, viewOf, frontOf, queueAfter, waitingAfter, pastSlot}
+use Rattle.rules.specs.Hub.{flagPlace, viewOf, frontOf, queueAfter, waitingAfter}
 use Rattle.rules.specs.Calls.{blankSlot, insertOf}
-use Rattle.rules.specs.Examples.Table.{Case, _is_, Right, event, half32}
+use Rattle.rules.specs.Examples.Table.{_is_, Right, event, half32}
 use Rattle.rules.specs.Examples.Desk.{desk, raw, move, after, stickX, stickY, hatX, south, given, eventsBytes}
 
 -- ---- a pad's six deadzone flags; past the 24 for an axis that has none, and for a pad that is none

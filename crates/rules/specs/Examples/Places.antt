@@ -1,10 +1,10 @@
 -- A pad's 52 places: how a sheet is laid out, where codes and names are found, and which pads convert. Assumes nothing.
-use Prim.Native.Nat.{ℕ, zero, suc, _+_, _*_}
+use Prim.Native.Nat.{ℕ, zero, suc, _+_}
 use mathlib.Core.Path.{_≡_, refl}
 use mathlib.Core.Bool.{Bool, true, false}
 use mathlib.Core.List.{List, [], _∷_, _++_, map}
 use lib.ListN.{length, getD, take, drop, replicate}
-use lib.IntN.{ℤ, pos, negsuc}
+use lib.IntN.{pos, negsuc}
 use lib.Ieee as Ieee
 use lib.Ieee.{binary32, toBits}
 use Rattle.rules.specs.declared.SheetElement.{SheetElement}
@@ -12,7 +12,7 @@ use Rattle.rules.specs.declared.Row.{Row}
 use Rattle.rules.specs.Sheets.{sheetBytes}
 use Rattle.rules.specs.Places.{rowsOf, placeOf, scanOf, presentNames, namedOf, convertsOf, axisElement, noElement, clearedOf}
 use Rattle.rules.specs.Calls.{rowCode, rowKind, rowName, rowElement}
-use Rattle.rules.specs.Examples.Table.{Case, _is_, Right, button, axis}
+use Rattle.rules.specs.Examples.Table.{_is_, Right, button, axis}
 
 -- ---- "in code order", the unlisted directions merged in
 

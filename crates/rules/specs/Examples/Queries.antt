@@ -1,8 +1,7 @@
 -- The queries: refusals, the fallback to `to_nec`, axes before buttons, and records that are absent. Assumes nothing.
-use Prim.Native.Nat.{ℕ}
-use mathlib.Core.Path.{_≡_, refl}
-use mathlib.Core.Bool.{Bool, true, false}
-use mathlib.Core.List.{List, [], _∷_, _++_, map}
+use mathlib.Core.Path.{refl}
+use mathlib.Core.Bool.{true, false}
+use mathlib.Core.List.{[], _∷_}
 use Rattle.numbers.specs.Constants.{zero32, one32, minusOne32}
 use Rattle.rules.specs.declared.Hub.{Hub}
 use Rattle.rules.specs.declared.EventType.the-variants.{Pressed, Axis}
@@ -13,7 +12,7 @@ use Rattle.rules.specs.declared.AxisAnswer.the-variants as axisAnswer
 use Rattle.rules.specs.declared.NumberAnswer.the-variants as numberAnswer
 use Rattle.rules.specs.Names.{codeLeft, dpadLeft}
 use Rattle.rules.specs.Queries.{pressedByCode, pressedByName, connectedOf, valueByCode, valueByName, thresholdByCode, buttonByCode, buttonByName, axisByCode, axisByName, nameByCode, codeByName}
-use Rattle.rules.specs.Examples.Table.{Case, _is_, Right, event, half32}
+use Rattle.rules.specs.Examples.Table.{_is_, Right, event, half32}
 use Rattle.rules.specs.Examples.Desk.{desk, south, plain, stickX, trigger, hatX, given}
 
 -- South and the unnamed button are pressed, and Left; LeftStickX stands at -1.0; and South's code has an axis record too, of 0.5

@@ -2,18 +2,16 @@
 use Prim.Native.Nat.{ℕ}
 use mathlib.Core.Path.{_≡_, refl}
 use mathlib.Core.Bool.{Bool, true, false}
-use mathlib.Core.List.{List, [], _∷_, _++_, map}
-use lib.IntN.{ℤ, pos, negsuc}
+use mathlib.Core.List.{[], _∷_}
+use lib.IntN.{negsuc}
 use Rattle.numbers.specs.Constants.{one32}
 use Rattle.rules.specs.declared.Hub.{Hub}
-use Rattle.rules.specs.declared.ButtonData.{ButtonData}
 use Rattle.rules.specs.declared.EventType.the-variants.{Pressed, Released, Repeated}
-use Rattle.rules.specs.declared.RepeatAnswer.{RepeatAnswer}
 use Rattle.rules.specs.declared.RepeatAnswer.the-variants.{Due, Quiet, Refused}
 use Rattle.rules.specs.Names.{codeLeft}
 use Rattle.rules.specs.Calls.{renameOf}
 use Rattle.rules.specs.Repeat.{dueOf, repeatOf}
-use Rattle.rules.specs.Examples.Table.{Case, _is_, Right, event}
+use Rattle.rules.specs.Examples.Table.{_is_, Right, event}
 use Rattle.rules.specs.Examples.Desk.{desk, twoPads, south, plain, hatX, raw, move, disconnect, after, given}
 
 -- ---- when a record is due

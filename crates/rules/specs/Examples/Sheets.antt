@@ -1,15 +1,14 @@
 -- Sheets and rename lists: a good sheet byte by byte, every rule of an element at its limit and one past it, and the order 3, 4, 5. Assumes nothing.
 use Prim.Native.Nat.{ℕ, zero, suc, _+_}
 use mathlib.Core.Path.{_≡_, refl}
-use mathlib.Core.Bool.{Bool, true, false}
-use mathlib.Core.List.{List, [], _∷_, _++_, map}
+use mathlib.Core.Bool.{true, false}
+use mathlib.Core.List.{List, [], _∷_, _++_}
 use lib.ListN.{set, take}
 use lib.IntN.{ℤ, pos, negsuc}
 use Rattle.rules.specs.declared.SheetElement.{SheetElement}
-use Rattle.rules.specs.declared.SheetRead.{SheetRead}
 use Rattle.rules.specs.declared.SheetRead.the-variants as sheetRead
 use Rattle.rules.specs.Sheets.{sheetFits, sheetRefusal, readSheet, elementOf, sheetBytes, renameListRefusal}
-use Rattle.rules.specs.Examples.Table.{Case, _is_, Right, button, axis}
+use Rattle.rules.specs.Examples.Table.{_is_, Right, button, axis}
 
 -- ---- the bytes: "count, version, hats 0..15, n, then n elements: code 4, kind 1, name 1, min 4, max 4, deadzone 4"
 

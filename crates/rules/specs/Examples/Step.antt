@@ -1,27 +1,25 @@
 -- Steps, as pumps of a few records: what is taken, filtered, queued and stored; Connected and Disconnected. Assumes nothing.
-use Prim.Native.Nat.{ℕ}
 use mathlib.Core.Path.{_≡_, refl}
 use mathlib.Core.Bool.{Bool, true, false}
-use mathlib.Core.List.{List, [], _∷_, _++_, map}
+use mathlib.Core.List.{[], _∷_, _++_}
 use lib.ListN.{getD}
-use lib.IntN.{ℤ, pos, negsuc}
-use lib.Ieee.{Float, binary32, ofBits}
+use lib.IntN.{pos, negsuc}
+use lib.Ieee.{binary32, ofBits}
 use Rattle.numbers.specs.Constants.{zero32, one32, minusOne32}
 use Rattle.rules.specs.declared.Hub.{Hub}
-use Rattle.rules.specs.declared.EventType.the-variants.{Pressed, Released, Changed, Axis, Connected, Disconnected, Dropped}
+use Rattle.rules.specs.declared.EventType.the-variants.{Pressed, Changed, Axis, Disconnected, Dropped}
 use Rattle.rules.specs.declared.PumpAnswer.the-variants.{Drained}
-use Rattle.rules.specs.declared.TruthAnswer.{TruthAnswer}
 use Rattle.rules.specs.declared.TruthAnswer.the-variants as truthAnswer
 use Rattle.rules.specs.declared.ButtonAnswer.the-variants as buttonAnswer
 use Rattle.rules.specs.declared.AxisAnswer.the-variants as axisAnswer
-use Rattle.rules.specs.Names.{codeLeft, codeRight, dpadLeft, dpadRight, dpadX}
+use Rattle.rules.specs.Names.{dpadX}
 use Rattle.rules.specs.Sheets.{sheetBytes}
 use Rattle.rules.specs.Calls.{registerOf, insertOf, incOf, renameOf}
 use Rattle.rules.specs.Hub.{convertsNow, hatsNow}
 use Rattle.rules.specs.Queries.{pressedByCode, connectedOf, buttonByCode, axisByCode, nameByCode}
 use Rattle.rules.specs.declared.NumberAnswer.the-variants as numberAnswer
-use Rattle.rules.specs.Examples.Table.{Case, _is_, Right, button, axis, event, half32, threeQuarters32}
-use Rattle.rules.specs.Examples.Desk.{bare, desk, twoPads, south, plain, stickX, stickY, trigger, hatX, raw, press, release, move, connect, disconnect, after, given, tells, told, eventsBytes}
+use Rattle.rules.specs.Examples.Table.{_is_, Right, button, axis, event, half32, threeQuarters32}
+use Rattle.rules.specs.Examples.Desk.{bare, desk, twoPads, south, plain, stickX, stickY, trigger, hatX, raw, press, move, connect, disconnect, after, given, tells, told, eventsBytes}
 
 -- ---- what is taken and queued
 
