@@ -2,7 +2,7 @@
 -- buffer where it ends, and the second text is laid over what was left there. Assumes nothing.
 use mathlib.Core.Path.{_≡_, refl, sym, ap, _∙_}
 use mathlib.Core.Bool.{Bool, true, false, cond, not}
-use mathlib.Core.List.{List, _++_, append-assoc}
+use mathlib.Core.List.{List, [], _∷_, _++_, append-assoc}
 use Prim.Native.Nat.{ℕ, _+_, _≤_, _<_}
 use native.Mathlib.Omega.{arith}
 use lib.ListN.{length, take, drop, length-append, length-take, length-drop}
@@ -96,6 +96,32 @@ more used text before at mid place room next after end l a h =
       place = omega arith;
       short = omega arith;
     }
+
+-- a laid text under its name, for which the room was there
+pub named : (used room : ℕ) (text name before : List ℕ) (at : ℕ) (after : List ℕ) (next : ℕ)
+    → Laid used text before at after next
+    → text ≡ name
+    → used ≤ room
+    → at + room ≤ length before
+    → Appended room name before at after next
+named used room text name before at after next l e u h =
+    let s : length text ≤ used = l .short in
+    let same : length text ≡ length name = ap length e in
+    appended room name before at after next h
+    (record { is = l .is ∙ ap (laidOver before at) e; place = l .place ∙ ap (λ (n : ℕ). at + n) same; short = omega arith })
+
+-- a text of at most `size` bytes and one byte behind it
+pub ended : (size end : ℕ) (text name before : List ℕ) (at : ℕ) (mid : List ℕ) (place : ℕ) (after : List ℕ) (next : ℕ)
+    → text ≡ name
+    → length name ≤ size
+    → Appended (length text) text before at mid place
+    → Appended 1 (end ∷ []) mid place after next
+    → at + (size + 1) ≤ length before
+    → Appended (size + 1) (name ++ (end ∷ [])) before at after next
+ended size end text name before at mid place after next e short first second room =
+    let same : length text ≡ length name = ap length e in
+    let l : Laid (length text) text before at mid place = laid _ _ _ _ _ _ first (omega arith) in
+    named _ _ _ _ _ _ _ _ (more _ _ _ _ _ _ _ _ _ _ l second (omega arith)) (ap (λ (t : List ℕ). t ++ (end ∷ [])) e) (omega arith) room
 
 -- appending keeps the buffer's length
 pub appended-length : (room : ℕ) (text before : List ℕ) (at : ℕ) (after : List ℕ) (next : ℕ) → Appended room text before at after next → length after ≡ length before

@@ -22,7 +22,6 @@ placesOf (suc k) n = cond (ltb n 10) 1 (placesOf k (n / 10) + 1)
 
 -- "pad, name, time, steps and place in decimal"
 unfoldable pub decimalOf : ℕ → List ℕ
-unfolding placesOf
 decimalOf n = digits 10 (placesOf 19 n) n
 
 -- "code and value bits as 8 lower-case hex digits"
@@ -31,30 +30,50 @@ hexOf n = digits 16 8 n
 
 -- a number and the byte behind it, a space or the line's end
 unfoldable pub numberText : ℕ → ℕ → List ℕ
-unfolding decimalOf
 numberText n end = decimalOf n ++ (end ∷ [])
 
 unfoldable pub hexText : ℕ → ℕ → List ℕ
-unfolding hexOf
 hexText n end = hexOf n ++ (end ∷ [])
 
 -- ---- an event's line
 
--- the word of an event's kind, and a space
+-- the words, each with a space
+
+abbrev pub pressedWord : List ℕ
+pressedWord = P ∷ R ∷ E ∷ S ∷ S ∷ E ∷ D ∷ space ∷ []
+
+abbrev pub releasedWord : List ℕ
+releasedWord = R ∷ E ∷ L ∷ E ∷ A ∷ S ∷ E ∷ D ∷ space ∷ []
+
+abbrev pub repeatedWord : List ℕ
+repeatedWord = R ∷ E ∷ P ∷ E ∷ A ∷ T ∷ E ∷ D ∷ space ∷ []
+
+abbrev pub changedWord : List ℕ
+changedWord = C ∷ H ∷ A ∷ N ∷ G ∷ E ∷ D ∷ space ∷ []
+
+abbrev pub axisWord : List ℕ
+axisWord = A ∷ X ∷ I ∷ S ∷ space ∷ []
+
+abbrev pub connectedWord : List ℕ
+connectedWord = C ∷ O ∷ N ∷ N ∷ E ∷ C ∷ T ∷ E ∷ D ∷ space ∷ []
+
+abbrev pub disconnectedWord : List ℕ
+disconnectedWord = D ∷ I ∷ S ∷ C ∷ O ∷ N ∷ N ∷ E ∷ C ∷ T ∷ E ∷ D ∷ space ∷ []
+
+abbrev pub droppedWord : List ℕ
+droppedWord = D ∷ R ∷ O ∷ P ∷ P ∷ E ∷ D ∷ space ∷ []
+
+-- the word of an event's kind
 unfoldable pub wordOf : ℕ → List ℕ
 wordOf kind =
-    cond (eqb kind eventPressed) (P ∷ R ∷ E ∷ S ∷ S ∷ E ∷ D ∷ space ∷ [])
-    (cond (eqb kind eventReleased) (R ∷ E ∷ L ∷ E ∷ A ∷ S ∷ E ∷ D ∷ space ∷ [])
-    (cond (eqb kind eventRepeated) (R ∷ E ∷ P ∷ E ∷ A ∷ T ∷ E ∷ D ∷ space ∷ [])
-    (cond (eqb kind eventChanged) (C ∷ H ∷ A ∷ N ∷ G ∷ E ∷ D ∷ space ∷ [])
-    (cond (eqb kind eventAxis) (A ∷ X ∷ I ∷ S ∷ space ∷ [])
-    (cond (eqb kind eventConnected) (C ∷ O ∷ N ∷ N ∷ E ∷ C ∷ T ∷ E ∷ D ∷ space ∷ [])
-    (cond (eqb kind eventDisconnected) (D ∷ I ∷ S ∷ C ∷ O ∷ N ∷ N ∷ E ∷ C ∷ T ∷ E ∷ D ∷ space ∷ [])
-    (D ∷ R ∷ O ∷ P ∷ P ∷ E ∷ D ∷ space ∷ [])))))))
+    cond (eqb kind eventPressed) pressedWord
+    (cond (eqb kind eventReleased) releasedWord
+    (cond (eqb kind eventRepeated) repeatedWord
+    (cond (eqb kind eventChanged) changedWord
+    (cond (eqb kind eventAxis) axisWord (cond (eqb kind eventConnected) connectedWord (cond (eqb kind eventDisconnected) disconnectedWord droppedWord))))))
 
 -- "per event a word, pad, name, code in hex, value bits in hex, time"
 unfoldable pub lineOf : EventForm → List ℕ
-unfolding wordOf numberText hexText
 lineOf e =
     wordOf (e .kind)
     ++ (numberText (e .pad) space
@@ -62,25 +81,20 @@ lineOf e =
 
 -- the lines of the n events from the i-th on of an out buffer
 unfoldable pub linesFrom : List ℕ → ℕ → ℕ → List ℕ
-unfolding lineOf eventFields
 linesFrom out zero i = []
 linesFrom out (suc n) i = lineOf (eventFields (drop (eventSize * i) out)) ++ linesFrom out n (i + 1)
 
 -- the lines of the first n events of an out buffer
 unfoldable pub linesOf : List ℕ → ℕ → List ℕ
-unfolding linesFrom
 linesOf out n = linesFrom out n 0
 
 -- ---- "The last line is DRAINED and all steps, or STOPPED, refusal and place, or SHEET and refusal"
 
 unfoldable pub drainedLine : ℕ → List ℕ
-unfolding numberText
 drainedLine steps = D ∷ R ∷ A ∷ I ∷ N ∷ E ∷ D ∷ space ∷ numberText steps newline
 
 unfoldable pub stoppedLine : ℕ → ℕ → List ℕ
-unfolding numberText
 stoppedLine refusal place = S ∷ T ∷ O ∷ P ∷ P ∷ E ∷ D ∷ space ∷ numberText refusal space ++ numberText place newline
 
 unfoldable pub sheetLine : ℕ → List ℕ
-unfolding numberText
 sheetLine refusal = S ∷ H ∷ E ∷ E ∷ T ∷ space ∷ numberText refusal newline

@@ -23,6 +23,9 @@ const NUMBER_ROOM: usize = 21;
 
 const HEX_ROOM: usize = 9;
 
+const LINE_ROOM: usize = 94;
+
+
 // Whether a buffer of this length has that much room from the place on.
 fn fits(len: usize, at: usize, room: usize) -> bool
     ensures { λ r. ⌜ r ≡ leb (at + room) len ⌝ }
@@ -63,4 +66,60 @@ pub fn number(out: &mut [u8], at: usize, n: u64, end: u8) -> usize
     let count = io::decimal(n, &mut digits);
     let next = append(out, at, &digits[..count]);
     append(out, next, &[end])
+}
+
+// Eight hex digits, and the byte behind them.
+pub fn hex(out: &mut [u8], at: usize, x: u32, end: u8) -> usize
+    ensures { λ r. ⌜ Appended 9 (hexText x end) (now (out .entry)) at (now (out .exit)) r ⌝ }
+{
+    if !fits(out.len(), at, HEX_ROOM) {
+        return at;
+    }
+    let mut digits = [0u8; 16];
+    let count = io::hex(x as u64, 8, &mut digits);
+    let next = append(out, at, &digits[..count]);
+    append(out, next, &[end])
+}
+
+// The word of an event's kind.
+pub fn word(out: &mut [u8], at: usize, kind: u8) -> usize
+    ensures { λ r. ⌜ Appended (length (wordOf kind)) (wordOf kind) (now (out .entry)) at (now (out .exit)) r ⌝ }
+{
+    if kind == EVENT_PRESSED {
+        return append(out, at, b"PRESSED ");
+    }
+    if kind == EVENT_RELEASED {
+        return append(out, at, b"RELEASED ");
+    }
+    if kind == EVENT_REPEATED {
+        return append(out, at, b"REPEATED ");
+    }
+    if kind == EVENT_CHANGED {
+        return append(out, at, b"CHANGED ");
+    }
+    if kind == EVENT_AXIS {
+        return append(out, at, b"AXIS ");
+    }
+    if kind == EVENT_CONNECTED {
+        return append(out, at, b"CONNECTED ");
+    }
+    if kind == EVENT_DISCONNECTED {
+        return append(out, at, b"DISCONNECTED ");
+    }
+    append(out, at, b"DROPPED ")
+}
+
+// An event's line.
+pub fn line(out: &mut [u8], at: usize, event: EventForm) -> usize
+    ensures { λ r. ⌜ Appended 94 (lineOf event) (now (out .entry)) at (now (out .exit)) r ⌝ }
+{
+    if !fits(out.len(), at, LINE_ROOM) {
+        return at;
+    }
+    let pad = word(out, at, event.kind);
+    let name = number(out, pad, event.pad as u64, SPACE);
+    let code = number(out, name, event.name as u64, SPACE);
+    let bits = hex(out, code, event.code, SPACE);
+    let time = hex(out, bits, event.bits, SPACE);
+    number(out, time, event.time, NEWLINE)
 }

@@ -1,4 +1,11 @@
+-- `lines::number` meets its contract: the digits and the byte behind them are laid as one text. Assumes nothing.
+use mathlib.Core.Path.{_∙_}
+use Prim.Native.Nat.{_^_, _<_}
+use native.Mathlib.Omega.{arith}
 use borrow.Author.Needs.{needs}
+use Rattle.lines.specs.Text.{numberText}
+use Rattle.lines.proofs.Laws.{ended, untouched, lacking, having}
+use Rattle.lines.proofs.Digits.{decimal-is, decimal-short, number-short}
 use Rattle.lines.proofs.number.Statement.{statement}
 use Rattle.lines.proofs.number.Tie as tie
 use Rattle.lines.proofs.number.Reads as reads
@@ -7,45 +14,43 @@ use Rattle.io.proofs.decimal.Reads as decimal-reads
 use Rattle.lines.proofs.append.Reads as append-reads
 use Rattle.lines.proofs.fits.Reads as fits-reads
 
--- src/lib.rt:59:9
 fits-requires : tie.Need-fits-requires
 fits-requires c κs = search needs
 
--- src/lib.rt:60:9
 returns : tie.Need-returns
-returns c = ?
+returns c =
+    let a = c .before .before .before .args in
+    untouched _ _ _ _ (number-short (a .n) (a .end)) (lacking _ _ _ (c .before .fits2 .ensures) (c .if1 .taken))
 
--- src/lib.rt:63:9
 decimal-requires : tie.Need-decimal-requires
 decimal-requires c κs = search needs
 
--- src/lib.rt:64:32
 array-share-prefix-digits : tie.Need-array-share-prefix-digits
 array-share-prefix-digits c = search needs
 
--- src/lib.rt:64:32
 slice-aggregate-append : tie.Need-slice-aggregate-append
 slice-aggregate-append c = search needs
 
--- src/lib.rt:64:9
 append-requires : tie.Need-append-requires
 append-requires c κs = search needs
 
--- src/lib.rt:65:23
 slice-aggregate-append-2 : tie.Need-slice-aggregate-append-2
 slice-aggregate-append-2 c = search needs
 
--- src/lib.rt:65:5
 append-requires-2 : tie.Need-append-requires-2
 append-requires-2 c κs = search needs
 
--- src/lib.rt:56:1
 same-length : tie.Need-same-length
 same-length c = search needs
 
--- src/lib.rt:56:1
 returns-2 : tie.Need-returns-2
-returns-2 c = ?
+unfolding numberText
+returns-2 c =
+    let a = c .before .before .before .before .before .before .before .before .before .before .before .before .before .before .before .args in
+    let d = c .before .before .before .before .before .before .before .before .before .before .decimal in
+    let few : a .n < 10 ^ 20 = omega arith in
+    ended 20 _ _ _ _ _ _ _ _ _ (d .ensures .1 .1 ∙ decimal-is (a .n) (d .result) few (d .ensures .1 .0)) (decimal-short (a .n)) (c .before .before .before .before .before .before .before .append .ensures)
+    (c .before .before .append2 .ensures) (having _ _ _ (c .before .before .before .before .before .before .before .before .before .before .before .before .before .fits2 .ensures) (c .before .before .before .before .before .before .before .before .before .before .before .before .if1 .left))
 
 pub number-spec : {M : Type 1} → statement M
 number-spec =
