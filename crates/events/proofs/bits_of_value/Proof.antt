@@ -1,7 +1,7 @@
 -- `events::bits_of_value` meets its contract: only a NaN differs from itself. Assumes nothing.
 use borrow.Author.Needs.{needs}
 use mathlib.Core.Path.{_≡_, refl, sym, subst}
-use mathlib.Core.Bool.{true, false, not, true≢false}
+use mathlib.Core.Bool.{false, not, true≢false}
 use lib.Dec.{T}
 use lib.Ieee.{Float, nan, inf, fin, binary32, toBits, ne, eq, isNan}
 use lib.Ieee.Compare.{differs-from-itself}
