@@ -5,7 +5,7 @@ use mathlib.Core.Bool.{Bool, true, false, cond, not}
 use mathlib.Core.List.{List, [], _∷_, _++_, append-assoc}
 use Prim.Native.Nat.{ℕ, _+_, _≤_, _<_}
 use native.Mathlib.Omega.{arith}
-use lib.ListN.{length, take, drop, length-append, length-take, length-drop}
+use lib.ListN.{length, take, drop, length-append, length-drop, take-append-drop}
 use lib.Seq.{length-take-le, take-at, drop-append-add, drop-drop}
 use lib.Dec.{leb}
 use borrow.Author.Tests.{le-leb, lt-leb, leb-true, leb-false, not-true, not-false}
@@ -70,8 +70,8 @@ laid-twice before at text more h =
     let first : take n (take at before ++ (text ++ rest)) ≡ front = ap (take n) whole ∙ take-at front rest n long in
     let end : n + length more ≡ at + length (text ++ more) = omega (arith, length-append text more) in
     let second : drop (n + length more) (take at before ++ (text ++ rest)) ≡ drop (at + length (text ++ more)) before =
-          ap (drop (n + length more)) whole ∙ ap (λ (j : ℕ). drop (j + length more) (front ++ rest)) (sym long)
-          ∙ drop-append-add front rest (length more) ∙ drop-drop (length more) n before ∙ ap (λ (j : ℕ). drop j before) end in
+    ap (drop (n + length more)) whole ∙ ap (λ (j : ℕ). drop (j + length more) (front ++ rest)) (sym long)
+    ∙ drop-append-add front rest (length more) ∙ drop-drop (length more) n before ∙ ap (λ (j : ℕ). drop j before) end in
     ap (λ (f : List ℕ). f ++ (more ++ drop (n + length more) (take at before ++ (text ++ rest)))) first
     ∙ ap (λ (b : List ℕ). front ++ (more ++ b)) second ∙ simp append-assoc
 
@@ -97,18 +97,36 @@ more used text before at mid place room next after end l a h =
       short = omega arith;
     }
 
--- a laid text under its name, for which the room was there
+-- nothing is laid yet
+pub laid-none : (before : List ℕ) (at : ℕ) → at ≤ length before → Laid 0 [] before at before at
+unfolding laidOver
+laid-none before at h =
+    let start : at + 0 ≡ at = omega arith in
+    record {
+      is = sym (ap (λ (n : ℕ). take at before ++ drop n before) start ∙ take-append-drop at before);
+      place = omega arith;
+      short = omega arith;
+    }
+
+-- a laid text under another name and bound
+pub grown : (used bound : ℕ) (text name before : List ℕ) (at : ℕ) (after : List ℕ) (next : ℕ)
+    → Laid used text before at after next
+    → text ≡ name
+    → used ≤ bound
+    → Laid bound name before at after next
+grown used bound text name before at after next l e u =
+    let s : length text ≤ used = l .short in
+    let same : length text ≡ length name = ap length e in
+    record { is = l .is ∙ ap (laidOver before at) e; place = l .place ∙ ap (λ (n : ℕ). at + n) same; short = omega arith }
+
+-- the same where the room for it was asked
 pub named : (used room : ℕ) (text name before : List ℕ) (at : ℕ) (after : List ℕ) (next : ℕ)
     → Laid used text before at after next
     → text ≡ name
     → used ≤ room
     → at + room ≤ length before
     → Appended room name before at after next
-named used room text name before at after next l e u h =
-    let s : length text ≤ used = l .short in
-    let same : length text ≡ length name = ap length e in
-    appended room name before at after next h
-    (record { is = l .is ∙ ap (laidOver before at) e; place = l .place ∙ ap (λ (n : ℕ). at + n) same; short = omega arith })
+named used room text name before at after next l e u h = appended room name before at after next h (grown used room text name before at after next l e u)
 
 -- a text of at most `size` bytes and one byte behind it
 pub ended : (size end : ℕ) (text name before : List ℕ) (at : ℕ) (mid : List ℕ) (place : ℕ) (after : List ℕ) (next : ℕ)

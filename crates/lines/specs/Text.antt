@@ -1,12 +1,12 @@
 -- What padlog prints, as bytes: numbers, words and lines. Definitions only. Assumes nothing.
-use Prim.Native.Nat.{ℕ, zero, suc, _+_, _*_, _/_}
+use Prim.Native.Nat.{ℕ, zero, suc, _+_, _*_, _/_, min}
 use mathlib.Core.Bool.{cond}
 use mathlib.Core.List.{List, [], _∷_, _++_}
-use lib.ListN.{drop}
+use lib.ListN.{length, drop}
 use lib.Dec.{eqb, ltb}
 use Rattle.io.specs.Digits.{digits}
 use Rattle.rules.specs.declared.EventForm.{EventForm}
-use Rattle.rules.specs.Forms.{eventFields, fieldOf, eventSize, eventPressed, eventReleased, eventRepeated, eventChanged, eventAxis, eventConnected, eventDisconnected}
+use Rattle.rules.specs.Forms.{eventFields, eventSize, eventPressed, eventReleased, eventRepeated, eventChanged, eventAxis, eventConnected, eventDisconnected}
 use Rattle.lines.specs.Letters.{A, C, D, E, G, H, I, L, N, O, P, R, S, T, X, space, newline}
 
 -- ---- numbers
@@ -79,22 +79,31 @@ lineOf e =
     ++ (numberText (e .pad) space
     ++ (numberText (e .name) space ++ (hexText (e .code) space ++ (hexText (e .bits) space ++ numberText (e .time) newline))))
 
--- the lines of the n events from the i-th on of an out buffer
-unfoldable pub linesFrom : List ℕ → ℕ → ℕ → List ℕ
-linesFrom out zero i = []
-linesFrom out (suc n) i = lineOf (eventFields (drop (eventSize * i) out)) ++ linesFrom out n (i + 1)
+-- how many events of `count` an out buffer can hold
+unfoldable pub heldOf : List ℕ → ℕ → ℕ
+heldOf out count = min count (length out / eventSize)
 
 -- the lines of the first n events of an out buffer
 unfoldable pub linesOf : List ℕ → ℕ → List ℕ
-linesOf out n = linesFrom out n 0
+linesOf out zero = []
+linesOf out (suc n) = linesOf out n ++ lineOf (eventFields (drop (eventSize * n) out))
 
 -- ---- "The last line is DRAINED and all steps, or STOPPED, refusal and place, or SHEET and refusal"
 
+abbrev pub drainedWord : List ℕ
+drainedWord = D ∷ R ∷ A ∷ I ∷ N ∷ E ∷ D ∷ space ∷ []
+
+abbrev pub stoppedWord : List ℕ
+stoppedWord = S ∷ T ∷ O ∷ P ∷ P ∷ E ∷ D ∷ space ∷ []
+
+abbrev pub sheetWord : List ℕ
+sheetWord = S ∷ H ∷ E ∷ E ∷ T ∷ space ∷ []
+
 unfoldable pub drainedLine : ℕ → List ℕ
-drainedLine steps = D ∷ R ∷ A ∷ I ∷ N ∷ E ∷ D ∷ space ∷ numberText steps newline
+drainedLine steps = drainedWord ++ numberText steps newline
 
 unfoldable pub stoppedLine : ℕ → ℕ → List ℕ
-stoppedLine refusal place = S ∷ T ∷ O ∷ P ∷ P ∷ E ∷ D ∷ space ∷ numberText refusal space ++ numberText place newline
+stoppedLine refusal place = stoppedWord ++ (numberText refusal space ++ numberText place newline)
 
 unfoldable pub sheetLine : ℕ → List ℕ
-sheetLine refusal = S ∷ H ∷ E ∷ E ∷ T ∷ space ∷ numberText refusal newline
+sheetLine refusal = sheetWord ++ numberText refusal newline

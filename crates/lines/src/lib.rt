@@ -8,12 +8,15 @@ use events::EVENT_PRESSED;
 use events::EVENT_RELEASED;
 use events::EVENT_REPEATED;
 use rules::EventForm;
+use wire::EVENT_SIZE;
 ghost use mathlib.Core.Path.{_≡_};
-ghost use Prim.Native.Nat.{_+_, _*_, _≤_};
+ghost use Prim.Native.Nat.{_+_, _*_, _≤_, min};
+ghost use mathlib.Core.List.{_++_};
 ghost use lib.ListN.{length};
 ghost use lib.Dec.{leb};
+ghost use Rattle.rules.specs.Forms.{eventFields};
 ghost use Rattle.lines.specs.Appending.{Appended};
-ghost use Rattle.lines.specs.Text.{decimalOf, hexOf, numberText, hexText, wordOf, lineOf};
+ghost use Rattle.lines.specs.Text.{numberText, hexText, wordOf, lineOf, stoppedLine, heldOf, linesOf};
 
 pub const SPACE: u8 = b' ';
 
@@ -25,6 +28,7 @@ const HEX_ROOM: usize = 9;
 
 const LINE_ROOM: usize = 94;
 
+const STOPPED_ROOM: usize = 50;
 
 // Whether a buffer of this length has that much room from the place on.
 fn fits(len: usize, at: usize, room: usize) -> bool
@@ -122,4 +126,77 @@ pub fn line(out: &mut [u8], at: usize, event: EventForm) -> usize
     let bits = hex(out, code, event.code, SPACE);
     let time = hex(out, bits, event.bits, SPACE);
     number(out, time, event.time, NEWLINE)
+}
+
+// A word, a number, and the byte behind it.
+pub fn labelled(out: &mut [u8], at: usize, label: &[u8], n: u64, end: u8) -> usize
+    ensures { λ r. ⌜ Appended (length (now (label .entry)) + 21) (now (label .entry) ++ numberText n end) (now (out .entry)) at (now (out .exit)) r ⌝ }
+{
+    if out.len() < at {
+        return at;
+    }
+    if out.len() - at < label.len() {
+        return at;
+    }
+    if out.len() - at - label.len() < NUMBER_ROOM {
+        return at;
+    }
+    let next = append(out, at, label);
+    number(out, next, n, end)
+}
+
+// "STOPPED, refusal and place"
+pub fn stopped(out: &mut [u8], at: usize, refusal: u8, place: u64) -> usize
+    ensures { λ r. ⌜ Appended 50 (stoppedLine refusal place) (now (out .entry)) at (now (out .exit)) r ⌝ }
+{
+    if !fits(out.len(), at, STOPPED_ROOM) {
+        return at;
+    }
+    let next = labelled(out, at, b"STOPPED ", refusal as u64, SPACE);
+    number(out, next, place, NEWLINE)
+}
+
+// ---- the events of an out buffer
+
+// The event that a buffer begins with.
+pub fn fields(s: &[u8]) -> EventForm
+    requires { ⌜ 22 ≤ length (now s) ⌝ }
+    ensures { λ r. ⌜ r ≡ eventFields (now (s .entry)) ⌝ }
+{
+    EventForm {
+        kind: s[3],
+        pad: s[4],
+        name: s[5],
+        code: wire::read4(s, 6),
+        bits: wire::read4(s, 10),
+        time: wire::read8(s, 14),
+    }
+}
+
+fn least(a: usize, b: usize) -> usize
+    ensures { λ r. ⌜ r ≡ min a b ⌝ }
+{
+    if a < b { a } else { b }
+}
+
+// The lines of the first events of an out buffer, as many as `count` says and the buffer holds.
+pub fn lines(out: &mut [u8], at: usize, events: &[u8], count: usize) -> usize
+    ensures { λ r. ⌜ Appended (94 * heldOf (now (events .entry)) count) (linesOf (now (events .entry)) (heldOf (now (events .entry)) count)) (now (out .entry)) at (now (out .exit)) r ⌝ }
+{
+    let held = least(count, events.len() / EVENT_SIZE);
+    if out.len() < at {
+        return at;
+    }
+    if (out.len() - at) / LINE_ROOM < held {
+        return at;
+    }
+    let mut next = at;
+    let mut i: usize = 0;
+    while i < held {
+        let from = EVENT_SIZE * i;
+        let event = fields(&events[from..]);
+        next = line(out, next, event);
+        i += 1;
+    }
+    next
 }
