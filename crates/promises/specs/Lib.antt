@@ -1,3 +1,4 @@
 pub mod Waiting
 pub mod Weight
 pub mod Queue
+pub mod Reach
