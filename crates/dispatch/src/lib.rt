@@ -55,7 +55,7 @@ fn double(e: Event, next: Event) -> Dispatched
 
 // ---- names: "unnamed elements are Unknown"
 
-fn button_name(name: u8) -> u8
+pub fn button_name(name: u8) -> u8
     ensures { λ r. ⌜ r ≡ law.buttonName name ⌝ }
 {
     if names::is_button(name) {

@@ -1,7 +1,7 @@
 // The records of a code after an event, and what is read of them: 000's `GamepadState`.
 ghost use mathlib.Core.Path.{_≡_};
 ghost use mathlib.Core.Bool.{cond};
-ghost use Rattle.rules.specs.State.{buttonAfter, axisAfter, writesButton, writesAxis, readPressed, readValue};
+ghost use Rattle.rules.specs.State.{buttonAfter, axisAfter, writesButton, writesAxis, readPressed, readValue, nextCounter};
 use rules::AxisData;
 use rules::ButtonData;
 use rules::Event;
@@ -132,4 +132,14 @@ pub fn read_value(axisknown: bool, a: AxisData, buttonknown: bool, b: ButtonData
     ensures { λ r. ⌜ r ≡ readValue axisknown a buttonknown b ⌝ }
 {
     kept_value(axisknown, a.value, kept_value(buttonknown, b.value, 0.0))
+}
+
+// ---- "The counter goes from 2^62-1 to 0": 000's `inc`
+
+const LAST_COUNTER: u64 = 0x3fff_ffff_ffff_ffff;
+
+pub fn next_counter(n: u64) -> u64
+    ensures { λ r. ⌜ r ≡ nextCounter n ⌝ }
+{
+    if n < LAST_COUNTER { n + 1 } else { 0 }
 }

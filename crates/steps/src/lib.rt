@@ -1,0 +1,1 @@
+// No function: the laws stand in specs/.
