@@ -171,6 +171,14 @@ fn judge(kind: u8, case: &[u8]) {
     say(met_refusal(kind, case));
 }
 
+// Reads so many bytes to the front of the room, and answers whether all came.
+fn filled(room: &mut [u8], size: usize) -> bool {
+    if room.len() < size {
+        return false;
+    }
+    io::read_full(STDIN_FILENO, &mut room[..size]) == size
+}
+
 // Reads and judges the next case, and answers whether there was one.
 fn next_case(room: &mut [u8]) -> bool {
     let mut opening = [0u8; 5];
@@ -178,10 +186,10 @@ fn next_case(room: &mut [u8]) -> bool {
         return false;
     }
     let size = wire::read4(&opening, 1) as usize;
-    if room.len() < size {
+    if !filled(room, size) {
         return false;
     }
-    if io::read_full(STDIN_FILENO, &mut room[..size]) < size {
+    if room.len() < size {
         return false;
     }
     judge(opening[0], &room[..size]);
