@@ -7,7 +7,7 @@ ghost use Rattle.rules.specs.Names.{nowhere};
 ghost use Rattle.rules.specs.Step.{updatedAt};
 ghost use Rattle.rules.specs.Calls.{updateOf, insertedAt, insertOf, incOf, resetOf};
 ghost use Rattle.rules.specs.Repeat.{repeatOf};
-ghost use Rattle.calls.specs.Forms.{updateForm, insertForm};
+ghost use Rattle.calls.specs.Judged.{updateForm, insertForm};
 use rules::Answer;
 use rules::Answered;
 use rules::Event;

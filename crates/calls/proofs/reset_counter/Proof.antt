@@ -1,11 +1,12 @@
+-- `calls::reset_counter` meets its contract: one field is written. Assumes nothing.
+use mathlib.Core.Path.{refl}
+use Rattle.rules.specs.Calls.{countedAt, resetOf}
 use Rattle.calls.proofs.reset_counter.Statement.{statement}
 use Rattle.calls.proofs.reset_counter.Tie as tie
-use Rattle.calls.proofs.reset_counter.Reads as reads
-use Rattle.calls.proofs.reset_counter.Lts as lts
 
--- src/lib.rt:144:1
 returns : tie.Need-returns
-returns c = ?
+unfolding resetOf countedAt
+returns c = refl
 
 pub reset-counter-spec : {M : Type 1} → statement M
 reset-counter-spec = tie.close (tie.spec returns)
