@@ -1,11 +1,10 @@
--- What update, insert_event and repeat put together, over what their calls answer: refused by a number other than 0, or done. By the number's two cases,
+-- What update and insert_event put together, over what their calls answer: refused by a number other than 0, or done. By the number's two cases,
 -- and by putting equals for equals. Assumes nothing.
-use Prim.Native.Nat.{ℕ, zero, suc, _≤_, _<_, _/_}
+use Prim.Native.Nat.{ℕ, zero, suc}
 use mathlib.Core.Path.{_≡_, refl}
 use mathlib.Core.Bool.{Bool, true, _&&_, _||_, cond}
 use mathlib.Core.List.{List}
-use lib.ListN.{getD, set}
-use borrow.Author.Tests.{lt-ltb, le-ltb}
+use lib.ListN.{set}
 use Rattle.rules.specs.declared.Hub.{Hub}
 use Rattle.rules.specs.declared.Event.{Event}
 use Rattle.rules.specs.declared.EventForm.{EventForm}
@@ -13,15 +12,12 @@ use Rattle.rules.specs.declared.ButtonData.{ButtonData}
 use Rattle.rules.specs.declared.AxisData.{AxisData}
 use Rattle.rules.specs.declared.Answer.the-variants as answer
 use Rattle.rules.specs.declared.Answered.{Answered}
-use Rattle.rules.specs.declared.RepeatAnswer.the-variants as repeatAnswer
-use Rattle.rules.specs.Names.{placesPerPad, nowhere}
 use Rattle.rules.specs.Events.{codeOf, formEvent}
 use Rattle.rules.specs.State.{buttonAfter, axisAfter, writesButton, writesAxis}
-use Rattle.rules.specs.Refusals.{formRefusal, insertRefusal, repeatRefusal}
-use Rattle.rules.specs.Hub.{placeIn, nameIn, buttonAt, axisAt, touchedAt, movedAt}
+use Rattle.rules.specs.Refusals.{formRefusal, insertRefusal}
+use Rattle.rules.specs.Hub.{placeIn, buttonAt, axisAt, touchedAt, movedAt}
 use Rattle.rules.specs.Step.{updatedAt, updatedOf}
 use Rattle.rules.specs.Calls.{formPlace, updateFormBy, insertFormBy}
-use Rattle.rules.specs.Repeat.{duePlace, repeatedOf, repeatedAt, repeatBy, repeatOf}
 
 -- ---- update
 
@@ -106,30 +102,3 @@ insertForm h f = insertFormBy (insertRefusal f (h .pads) (formPlace h f) (h .wai
 pub insert-refused : (n : ℕ) (h : Hub) (f : EventForm) → (n ≡ 0 → ⊥) → refusedBy n h ≡ insertFormBy n h f
 insert-refused zero h f some = absurd (some refl)
 insert-refused (suc n) h f some = refl
-
--- ---- repeat
-
-repeat-stops : (n : ℕ) (found : Bool) (e : Event) → (n ≡ 0 → ⊥) → repeatAnswer.Refused n ≡ repeatBy n found e
-repeat-stops zero found e some = absurd (some refl)
-repeat-stops (suc n) found e some = refl
-
-module _ (h : Hub) (after every clock : ℕ) {number : ℕ} (judged : number ≡ repeatRefusal after every clock) where
-  pub repeat-refused : (number ≡ 0 → ⊥) → repeatAnswer.Refused number ≡ repeatOf h after every clock
-  unfolding repeatOf
-  repeat-refused some = rw (← judged) (repeat-stops _ _ _ some)
-
-  pub repeat-quiet : {place : ℕ} → number ≡ 0 → place ≡ duePlace h after every clock → nowhere ≤ place → repeatAnswer.Quiet ≡ repeatOf h after every clock
-  unfolding repeatOf
-  repeat-quiet none found past = rw (← judged, none, ← found, le-ltb _ _ past)
-
-  pub repeat-due :
-      {place name code : ℕ} {e : Event} →
-      number ≡ 0 →
-      place ≡ duePlace h after every clock →
-      place < nowhere →
-      name ≡ nameIn h (place / placesPerPad) place →
-      code ≡ getD (h .codes) place 0 →
-      e ≡ repeatedOf (place / placesPerPad) name code (buttonAt h place) after every →
-      repeatAnswer.Due e ≡ repeatOf h after every clock
-  unfolding repeatOf repeatedAt
-  repeat-due none found stands named coded gives = rw (← judged, none, ← found, lt-ltb _ _ stands, gives, named, coded)

@@ -1,9 +1,9 @@
--- `calls::repeat` meets its contract: by the refusal, and by whether a place is due. Assumes nothing.
-use Rattle.calls.specs.Judged.{repeat-refused, repeat-quiet, repeat-due}
+-- `clock::repeat` meets its contract: by the refusal, and by whether a place is due. Assumes nothing.
+use Rattle.clock.specs.Judged.{repeat-refused, repeat-quiet, repeat-due}
 use Rattle.rules.specs.Repeat.{duePlace}
 use borrow.Author.Needs.{needs}
-use Rattle.calls.proofs.repeat.Statement.{statement}
-use Rattle.calls.proofs.repeat.Tie as tie
+use Rattle.clock.proofs.repeat.Statement.{statement}
+use Rattle.clock.proofs.repeat.Tie as tie
 
 repeat-refusal-requires : tie.Need-repeat-refusal-requires
 repeat-refusal-requires c κs = search needs

@@ -1,8 +1,8 @@
--- `calls::inc` meets its contract: one field is written, with what the call ensures. Assumes nothing.
+-- `clock::inc` meets its contract: one field is written, with what the call ensures. Assumes nothing.
 use Rattle.rules.specs.Calls.{countedAt, incOf}
 use borrow.Author.Needs.{needs}
-use Rattle.calls.proofs.inc.Statement.{statement}
-use Rattle.calls.proofs.inc.Tie as tie
+use Rattle.clock.proofs.inc.Statement.{statement}
+use Rattle.clock.proofs.inc.Tie as tie
 
 next-counter-requires : tie.Need-next-counter-requires
 next-counter-requires c κs = search needs

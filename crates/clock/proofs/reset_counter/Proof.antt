@@ -1,8 +1,8 @@
--- `calls::reset_counter` meets its contract: one field is written. Assumes nothing.
+-- `clock::reset_counter` meets its contract: one field is written. Assumes nothing.
 use mathlib.Core.Path.{refl}
 use Rattle.rules.specs.Calls.{countedAt, resetOf}
-use Rattle.calls.proofs.reset_counter.Statement.{statement}
-use Rattle.calls.proofs.reset_counter.Tie as tie
+use Rattle.clock.proofs.reset_counter.Statement.{statement}
+use Rattle.clock.proofs.reset_counter.Tie as tie
 
 returns : tie.Need-returns
 unfolding resetOf countedAt
