@@ -1,13 +1,13 @@
 -- What a sheet that is not refused has: its size, at most 48 elements, and elements that fit. By the order of the refusals. Assumes nothing.
-use Prim.Native.Nat.{ℕ, zero, suc, _+_, _*_, _<_, _≤_}
+use Prim.Native.Nat.{ℕ, zero, suc, _+_, _-_, _*_, _<_, _≤_}
 use mathlib.Core.Bool.{Bool, true, false, cond, not, _&&_, _||_}
 use mathlib.Core.List.{List}
-use mathlib.Core.Path.{_≡_, refl, sym, _∙_, ap, subst}
+use mathlib.Core.Path.{_≡_, refl, subst}
 use native.Mathlib.Omega.{arith}
 use lib.Dec.{eqb, ltb, leb}
 use lib.ListN.{length}
 use lib.Signed.{ltZ}
-use borrow.Author.Tests.{eqb-true, eqb-false, leb-true, leb-false, ltb-true, ltb-false, lt-ltb, ne-eqb, eq-eqb}
+use borrow.Author.Tests.{eqb-true, leb-true, ltb-true, ltb-false, lt-ltb, ne-eqb}
 use Rattle.numbers.specs.Constants.{absent, withinOf, deadzoneWithinOf, deadzoneLimit}
 use Rattle.rules.specs.declared.SheetElement.{SheetElement}
 use Rattle.rules.specs.Names.{elementLimit, lastDeadzone, nameAllowed}
@@ -18,6 +18,7 @@ pub record Good (s : List ℕ) (n : ℕ) : Type 0 where
   pub size : length s ≡ sheetOpening + elementSize * n
   pub few : n ≤ elementLimit
   pub fits : (i : ℕ) → i < n → elementFits (elementOf s i) ≡ true
+  pub rising : (i : ℕ) → i + 1 < n → elementOf s i .code < elementOf s (i + 1) .code
 
 -- ---- of two tests that both pass
 
@@ -38,25 +39,33 @@ not-refused true true elements twice e = absurd (omega arith)
 not-refused true false false twice e = absurd (omega arith)
 not-refused false many elements twice e = absurd (omega arith)
 
-at-or-past : (s : List ℕ) (k i : ℕ) → elementFits (elementOf s k) ≡ true → (k < i → elementFits (elementOf s i) ≡ true) → (later : Bool) → ltb k i ≡ later
-    → k ≤ i → elementFits (elementOf s i) ≡ true
+-- what is kept of each element: it fits, and its code is above the one before it
+abbrev Kept : List ℕ → ℕ → Type 0
+Kept s i = (elementFits (elementOf s i) ≡ true) × (rises s i ≡ true)
+
+at-or-past : (s : List ℕ) (k i : ℕ) → Kept s k → (k < i → Kept s i) → (later : Bool) → ltb k i ≡ later → k ≤ i → Kept s i
 at-or-past s k i here rest true e from = rest (ltb-true k i e)
 at-or-past s k i here rest false e from =
     let most = ltb-false k i e in
     let at : k ≡ i = omega arith in
-    subst (λ (j : ℕ). elementFits (elementOf s j) ≡ true) at here
+    subst (Kept s) at here
 
-fits-at : (s : List ℕ) (n k : ℕ) → elementsFit s n k ≡ true → (i : ℕ) → k ≤ i → i < k + n → elementFits (elementOf s i) ≡ true
+kept-at : (s : List ℕ) (n k : ℕ) → elementsFit s n k ≡ true → (i : ℕ) → k ≤ i → i < k + n → Kept s i
 unfolding elementsFit
-fits-at s zero k e i from to = absurd (omega arith)
-fits-at s (suc n) k e i from to =
+kept-at s zero k e i from to = absurd (omega arith)
+kept-at s (suc n) k e i from to =
+    let past-first = both-right (elementFits (elementOf s k)) (rises s k && elementsFit s n (k + 1)) e in
     at-or-past s k i
-    (both-left (elementFits (elementOf s k)) (rises s k && elementsFit s n (k + 1)) e)
-    (λ past.
-    fits-at s n (k + 1)
-    (both-right (rises s k) (elementsFit s n (k + 1)) (both-right (elementFits (elementOf s k)) (rises s k && elementsFit s n (k + 1)) e))
-    i (omega arith) (omega arith))
+    (both-left (elementFits (elementOf s k)) (rises s k && elementsFit s n (k + 1)) e, both-left (rises s k) (elementsFit s n (k + 1)) past-first)
+    (λ past. kept-at s n (k + 1) (both-right (rises s k) (elementsFit s n (k + 1)) past-first) i (omega arith) (omega arith))
     (ltb k i) refl from
+
+above : (s : List ℕ) (i : ℕ) → rises s (i + 1) ≡ true → elementOf s i .code < elementOf s (i + 1) .code
+unfolding rises
+above s i e =
+    let later : i + 1 ≡ 0 → ⊥ = λ z. omega arith in
+    let before : i + 1 - 1 ≡ i = omega arith in
+    ltb-true (elementOf s i .code) (elementOf s (i + 1) .code) (rw (ne-eqb (i + 1) 0 later, before) at e)
 
 pub good : (s : List ℕ) → sheetRefusal s ≡ 0 → Good s (countOf s)
 unfolding sheetRefusal sheetFits
@@ -70,7 +79,8 @@ good s e =
           eqb-true (length s) (sheetOpening + elementSize * countOf s)
           (both-left (eqb (length s) (sheetOpening + elementSize * countOf s)) (opens s 0 (length s) && leb (countOf s) elementLimit) (parts .0));
       few = leb-true (countOf s) elementLimit (both-right (opens s 0 (length s)) (leb (countOf s) elementLimit) right);
-      fits = λ i short. fits-at s (countOf s) 0 (parts .1) i (omega arith) (omega arith);
+      fits = λ i short. kept-at s (countOf s) 0 (parts .1) i (omega arith) (omega arith) .0;
+      rising = λ i short. above s i (kept-at s (countOf s) 0 (parts .1) (i + 1) (omega arith) (omega arith) .1);
     }
 
 -- ---- an axis element's limits

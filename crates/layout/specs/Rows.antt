@@ -1,18 +1,18 @@
 -- Laws of laying a sheet out, one for each turn of the loop: what is laid and what is left to lay give the whole, place by place. Assumes nothing.
 use Prim.Native.Nat.{ℕ, zero, suc, _+_, _-_, _<_, _≤_}
-use mathlib.Core.Bool.{Bool, true, false, cond, _&&_, _||_}
-use mathlib.Core.List.{List, [], _∷_, _++_, append-nil}
-use mathlib.Core.Path.{_≡_, refl, sym, _∙_, ap}
+use mathlib.Core.Bool.{Bool, true, false, _&&_, _||_}
+use mathlib.Core.List.{List, _∷_, _++_, append-nil}
+use mathlib.Core.Path.{_≡_, refl, sym, _∙_}
 use native.Mathlib.Numerals.{add-one, sub-one}
 use native.Mathlib.Omega.{arith}
-use lib.Dec.{eqb, ltb, leb}
+use lib.Dec.{ltb, leb}
 use lib.ListN.{length, take, set}
 use lib.Seq.{take-suc-set, take-all, append-snoc}
 use borrow.Author.Tests.{ltb-true}
 use Rattle.rules.specs.declared.Row.{Row}
 use Rattle.rules.specs.Names.{placesPerPad, codeUp}
 use Rattle.rules.specs.Sheets.{elementOf}
-use Rattle.rules.specs.Places.{directions, elementNext, directionNext, nextRow, oneIf, rowsFrom, rowsOf}
+use Rattle.rules.specs.Places.{directions, elementNext, directionNext, nextRow, oneIf, rowsFrom}
 
 -- ---- bounds
 

@@ -1,14 +1,14 @@
 -- `layout::lay` meets its contract. The invariant: the places laid and those left to lay are the whole; the counts stay small. Assumes nothing.
 use Prim.Native.Nat.{_≤_, _-_}
 use mathlib.Core.List.{_++_}
-use mathlib.Core.Path.{_≡_, refl, sym, _∙_, ap}
+use mathlib.Core.Path.{_≡_, refl, _∙_, ap}
 use native.Mathlib.Omega.{arith}
 use lib.ListN.{length, length-set, take}
 use borrow.Author.Needs.{needs}
 use Rattle.rules.specs.Names.{placesPerPad}
 use Rattle.rules.specs.Sheets.{countOf}
 use Rattle.rules.specs.Places.{oneIf, rowsFrom, rowsOf}
-use Rattle.layout.specs.Good.{Good, good}
+use Rattle.layout.specs.Good.{good}
 use Rattle.layout.specs.Rows.{one-if-small, laid-step, laid-all}
 use Rattle.layout.proofs.lay.Statement.{statement}
 use Rattle.layout.proofs.lay.Tie as tie

@@ -1,11 +1,9 @@
 -- `layout::next_row` meets its contract: each answer by the tests that led to it. An element that is next is one of the sheet's, so it fits. Assumes nothing.
 use borrow.Author.Needs.{needs}
 use native.Mathlib.Omega.{arith}
-use mathlib.Core.Bool.{true}
-use mathlib.Core.Path.{_≡_, sym, _∙_, ap}
-use denote.Ref.{now}
+use mathlib.Core.Path.{sym, _∙_, ap}
 use Rattle.rules.specs.Sheets.{elementFits}
-use Rattle.rules.specs.Places.{elementNext, directionNext, nextRow}
+use Rattle.rules.specs.Places.{nextRow}
 use Rattle.layout.specs.Rows.{element-inside, direction-inside}
 use Rattle.layout.proofs.next_row.Statement.{statement}
 use Rattle.layout.proofs.next_row.Tie as tie

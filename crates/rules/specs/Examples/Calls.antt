@@ -102,7 +102,8 @@ at-once :
 unfolding half-pumped list pump tells told desk raw renameOf
 at-once = refl
 
--- ---- update: "8, 6, 9, 11, 12", then the record of the event's code
+-- ---- update: "8, 6, 9, 11, 12", then the record of the event's code. "an event may also carry a direction code", of an axis too; AXIS on a button's code,
+-- PRESSED on an axis's code and a name other than the code's own are accepted
 
 one : Event → List ℕ
 one e = eventsBytes (e ∷ [])
@@ -112,6 +113,8 @@ updates :
     updateOf (desk true true) (one (event 5 (Pressed 1 south))) .answer is answer.Done
     ∷ updateOf (desk true true) (one (event 5 (Pressed 0 codeUp))) .answer is answer.Done
     ∷ updateOf (desk true true) (one (event 5 (Axis 40 south one32))) .answer is answer.Done
+    ∷ updateOf (desk true true) (one (event 5 (Axis 33 codeUp one32))) .answer is answer.Done
+    ∷ updateOf (desk true true) (one (event 5 (Pressed 2 stickX))) .answer is answer.Done
     ∷ updateOf (desk true true) [] .answer is answer.Refused 8
     ∷ updateOf (desk true true) (one (event 5 (Pressed 33 0))) .answer is answer.Refused 8
     ∷ updateOf (bare true true) (one (event 5 (Pressed 1 0))) .answer is answer.Refused 6

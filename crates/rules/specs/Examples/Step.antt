@@ -12,7 +12,7 @@ use Rattle.rules.specs.declared.PumpAnswer.the-variants.{Drained}
 use Rattle.rules.specs.declared.TruthAnswer.the-variants as truthAnswer
 use Rattle.rules.specs.declared.ButtonAnswer.the-variants as buttonAnswer
 use Rattle.rules.specs.declared.AxisAnswer.the-variants as axisAnswer
-use Rattle.rules.specs.Names.{dpadX}
+use Rattle.rules.specs.Names.{codeRight, dpadRight, dpadX}
 use Rattle.rules.specs.Sheets.{sheetBytes}
 use Rattle.rules.specs.Calls.{registerOf, insertOf, incOf, renameOf}
 use Rattle.rules.specs.Hub.{convertsNow, hatsNow}
@@ -64,6 +64,22 @@ cleared :
 unfolding tells told desk raw
 cleared = refl
 
+-- with updates off the state still has LeftStickY's 0.25, and the flag alone ends the clearing events
+cleared-once :
+    tells (given (desk true false) (event 1 (Axis 34 stickY (ofBits binary32 0x3e800000)) ∷ []))
+    (move stickY (pos 4) 5 ++ (move stickX (pos 1) 6 ++ move stickX (pos 1) 7))
+    2
+    ≡ told (Drained 63 2 4) (event 5 (Axis 34 stickY one32) ∷ event 6 (Axis 34 stickY zero32) ∷ [])
+unfolding given tells told desk raw
+cleared-once = refl
+
+-- a button element named DPadX gives that axis 1.0, which a converting pad makes Right
+hat-button :
+    tells (registerOf (bare true true) (sheetBytes 0 (button south 39 ∷ [])) .hub) (press south 5) 2
+    ≡ told (Drained 21 2 2) (event 5 (Pressed dpadRight codeRight) ∷ event 5 (Changed dpadRight codeRight one32) ∷ [])
+unfolding bare registerOf sheetBytes tells told raw
+hat-button = refl
+
 -- a record keeps the counter of its event's step, and its time
 counted : buttonByCode (after (incOf (incOf (desk true true))) (press south 7)) 0 south
     ≡ buttonAnswer.Data (record { value = one32; stamp = 7; counter = 2; pressed = true; repeating = false })
@@ -85,6 +101,11 @@ inserted-dropped :
     Right (tells (inserted true) [] 0 is told (Drained 0 0 1) [] ∷ tells (inserted false) [] 1 is told (Drained 0 1 1) (event 7 Dropped ∷ []) ∷ [])
 unfolding inserted tells told desk insertOf eventsBytes
 inserted-dropped = refl
+
+-- Disconnected that was inserted does not disconnect: the flag follows taken records
+inserted-disconnected : connectedOf (after (insertOf (desk true true) (eventsBytes (event 7 Disconnected ∷ [])) .hub) []) 0 ≡ truthAnswer.Is true
+unfolding after desk insertOf eventsBytes connectedOf
+inserted-disconnected = refl
 
 -- ---- Disconnected: "Disconnected clears nothing"; records of a disconnected pad are served
 
