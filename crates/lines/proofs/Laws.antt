@@ -70,8 +70,8 @@ laid-twice before at text more h =
     let first : take n (take at before ++ (text ++ rest)) ≡ front = ap (take n) whole ∙ take-at front rest n long in
     let end : n + length more ≡ at + length (text ++ more) = omega (arith, length-append text more) in
     let second : drop (n + length more) (take at before ++ (text ++ rest)) ≡ drop (at + length (text ++ more)) before =
-    ap (drop (n + length more)) whole ∙ ap (λ (j : ℕ). drop (j + length more) (front ++ rest)) (sym long)
-    ∙ drop-append-add front rest (length more) ∙ drop-drop (length more) n before ∙ ap (λ (j : ℕ). drop j before) end in
+          ap (drop (n + length more)) whole ∙ ap (λ (j : ℕ). drop (j + length more) (front ++ rest)) (sym long)
+          ∙ drop-append-add front rest (length more) ∙ drop-drop (length more) n before ∙ ap (λ (j : ℕ). drop j before) end in
     ap (λ (f : List ℕ). f ++ (more ++ drop (n + length more) (take at before ++ (text ++ rest)))) first
     ∙ ap (λ (b : List ℕ). front ++ (more ++ b)) second ∙ simp append-assoc
 

@@ -25,6 +25,7 @@ const HEX_ROOM: usize = 9;
 
 const LINE_ROOM: usize = 94;
 
+
 // Whether a buffer of this length has that much room from the place on.
 fn fits(len: usize, at: usize, room: usize) -> bool
     ensures { λ r. ⌜ r ≡ leb (at + room) len ⌝ }

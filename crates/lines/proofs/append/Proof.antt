@@ -63,14 +63,11 @@ loop-again : tie.Need-loop-again Inv-loop μ-loop
 loop-again c =
     let a = c .before .before .before .before .before .before .before .args in
     let l = c .before .before .loop in
-    let up : suc (l .i) ≡ l .i + 1 = sym (add-one (l .i)) in (
-      omega arith,
-      l .inv .1,
-      refl,
-      ap (λ (o : List ℕ). set o (a .at + l .i) (getD (a .text .now) (l .i) 0)) (l .inv .3)
-          ∙ paste-suc (a .out .now) (a .at) (a .text .now) (l .i) 0 (omega arith) (omega arith)
-          ∙ ap (λ (k : ℕ). paste (a .out .now) (a .at) (a .text .now) k) up,
-    )
+    let up : suc (l .i) ≡ l .i + 1 = sym (add-one (l .i)) in
+    (omega arith, l .inv .1, refl,
+     ap (λ (o : List ℕ). set o (a .at + l .i) (getD (a .text .now) (l .i) 0)) (l .inv .3)
+     ∙ paste-suc (a .out .now) (a .at) (a .text .now) (l .i) 0 (omega arith) (omega arith)
+     ∙ ap (λ (k : ℕ). paste (a .out .now) (a .at) (a .text .now) k) up)
 
 add-result : tie.Need-add-result Inv-loop μ-loop
 add-result c = omega arith
@@ -88,9 +85,9 @@ returns-2 c =
     let text = a .text .now in
     let all : l .i ≡ length text = omega arith in
     let is : l .out ≡ laidOver (a .out .now) (a .at) text =
-    l .inv .3 ∙ ap (λ (k : ℕ). paste (a .out .now) (a .at) text k) all
-    ∙ append-assoc (take (a .at) (a .out .now)) (take (length text) text) (drop (a .at + length text) (a .out .now))
-    ∙ ap (λ (t : List ℕ). take (a .at) (a .out .now) ++ (t ++ drop (a .at + length text) (a .out .now))) (take-all (length text) text (omega arith)) in
+          l .inv .3 ∙ ap (λ (k : ℕ). paste (a .out .now) (a .at) text k) all
+          ∙ append-assoc (take (a .at) (a .out .now)) (take (length text) text) (drop (a .at + length text) (a .out .now))
+          ∙ ap (λ (t : List ℕ). take (a .at) (a .out .now) ++ (t ++ drop (a .at + length text) (a .out .now))) (take-all (length text) text (omega arith)) in
     appended _ _ _ _ _ _ (l .inv .1) (record { is = is; place = refl; short = omega arith })
 
 pub append-spec : {M : Type 1} → statement M
