@@ -54,7 +54,7 @@ inside-any [] j d e short = absurd (omega arith)
 inside-any (x ∷ xs) zero d e short = refl
 inside-any (x ∷ xs) (suc j) d e short = inside-any xs j d e (omega arith)
 
-places-length : (s : List ℕ) → length (rowsOf s (countOf s)) ≡ placesPerPad
+pub places-length : (s : List ℕ) → length (rowsOf s (countOf s)) ≡ placesPerPad
 unfolding rowsOf
 places-length s = rows-length placesPerPad s (countOf s) 0 0 0
 
@@ -156,7 +156,7 @@ row-rise s taken i j less short =
 
 -- the place of a pad by its number among the 52
 module _ (h : Hub) (p : ℕ) (s : List ℕ) (k : Keeps h p s) (i : ℕ) (from : placesPerPad * p ≤ i) (to : i < placesPerPad * p + placesPerPad) where
-  code-here : getD (h .codes) i 0 ≡ rowAt s (i - placesPerPad * p) .code
+  pub code-here : getD (h .codes) i 0 ≡ rowAt s (i - placesPerPad * p) .code
   code-here =
       let e : placesPerPad * p + (i - placesPerPad * p) ≡ i = omega arith in
       subst (λ (j : ℕ). getD (h .codes) j 0 ≡ rowAt s (i - placesPerPad * p) .code) e (k .codes (i - placesPerPad * p) (omega arith))

@@ -1,3 +1,5 @@
 pub mod Rows
 pub mod Laid
 pub mod Columns
+pub mod Found
+pub mod Pads
