@@ -145,6 +145,11 @@ module _ (h : Hub) (s : List ℕ) (z : Sized h) where
           hats = getD-set-other (h .hats) (h .pads) q (hatsOf s) 0 other ∙ k .hats;
         }
 
+-- the places of a pad before the one that is laid
+pub laid-places : {A : Type 0} (xs vs : List A) (q p j : ℕ) (past : A) → q < p → j < placesPerPad * q + placesPerPad
+    → getD (laid xs (placesPerPad * p) vs) j past ≡ getD xs j past
+laid-places xs vs q p j past less to = laid-before past vs xs (placesPerPad * p) j (omega arith)
+
 -- ---- a kept pad's codes do not fall
 
 pub row-rise : (s : List ℕ) → sheetRefusal s ≡ 0 → (i j : ℕ) → i ≤ j → j < placesPerPad → rowAt s i .code ≤ rowAt s j .code

@@ -2,11 +2,12 @@
 -- a code answers what a plain scan of its places would. By induction on the calls; only registration touches the sheets' columns. Assumes nothing.
 use Prim.Native.Nat.{ℕ, zero, suc, _+_, _-_, _*_, _<_, _≤_}
 use mathlib.Core.Bool.{Bool, true, false, cond}
-use mathlib.Core.List.{List, [], _∷_}
+use mathlib.Core.List.{List, [], _∷_, map}
 use mathlib.Core.Path.{_≡_, refl, sym, _∙_, ap, subst}
 use lib.Dec.{eqb, ltb}
 use lib.Ieee.{Float}
 use lib.ListN.{length, getD}
+use lib.Seq.{getD-set-same, getD-set-other}
 use native.Mathlib.Omega.{arith}
 use borrow.Author.Tests.{ltb-true, ltb-false}
 use Rattle.rules.specs.declared.Hub.{Hub}
@@ -16,21 +17,23 @@ use Rattle.rules.specs.declared.EventRead.the-variants as eventRead
 use Rattle.rules.specs.declared.Looked.{Looked}
 use Rattle.rules.specs.Names.{padLimit, placesPerPad}
 use Rattle.rules.specs.Forms.{readEvent}
-use Rattle.rules.specs.Sheets.{sheetRefusal, countOf, elementOf}
-use Rattle.rules.specs.Places.{placeOf, scanOf}
+use Rattle.rules.specs.Sheets.{sheetRefusal, hatsOf, countOf, elementOf}
+use Rattle.rules.specs.Places.{placeOf, scanOf, rowsOf, convertsOf}
 use Rattle.rules.specs.Refusals.{thresholdsRefusal, formRefusal, insertRefusal}
 use Rattle.rules.specs.Step.{markedOf, pushedOf, turnedOf, updatedAt, updatedOf, stepHub}
-use Rattle.rules.specs.Calls.{freshHub, idleHub, newBy, newOf, registeredAt, registerRefusal, registerBy, registerOf, renamedAt, renameRefusal, renameBy, renameOf, formPlace, updateFormBy, updateBy, updateOf, insertedAt, insertFormBy, insertBy, insertOf, countedAt, incOf, resetOf}
+use Rattle.rules.specs.Calls.{rowCode, rowName, freshHub, idleHub, newBy, newOf, registeredAt, registerRefusal, registerBy, registerOf, renamedAt, renameRefusal, renameBy, renameOf, formPlace, updateFormBy, updateBy, updateOf, insertedAt, insertFormBy, insertBy, insertOf, countedAt, incOf, resetOf}
 use Rattle.pad.specs.Rising.{NeverFalls, place-is-scan}
 use Rattle.promises.specs.Reach.{Reached, new, register, rename, step, update, insert, inc, reset}
-use Rattle.registered.specs.Columns.{Keeps, Sized, accepted, register-sized, register-keeps, register-others, keeps-rise}
+use Rattle.registered.specs.Columns.{Keeps, Sized, laid-places, accepted, register-sized, register-keeps, register-others, keeps-rise}
 use Rattle.registered.specs.Found.{Listed, listed}
+use Rattle.registered.specs.Converts.{SamePlaces, converts-same}
 
 -- a pad with the sheet that it was registered with
 pub record Sheet (h : Hub) (p : ℕ) : Type 0 where
   pub sheet : List ℕ
   pub taken : sheetRefusal sheet ≡ 0
   pub keeps : Keeps h p sheet
+  pub converts : getD (h .converts) p false ≡ convertsOf (hatsOf sheet) (h .codes) (h .names) p
 
 pub record Desk (h : Hub) : Type 0 where
   pub sized : Sized h
@@ -78,7 +81,12 @@ alike h g a d =
       sheets =
           λ p short.
           let w = d .sheets p (rw (a .pads) at short) in
-          record { sheet = w .sheet; taken = w .taken; keeps = alike-keeps h g p (w .sheet) a (w .keeps) };
+          record {
+            sheet = w .sheet;
+            taken = w .taken;
+            keeps = alike-keeps h g p (w .sheet) a (w .keeps);
+            converts = rw (a .converts, a .codes, a .names) (w .converts);
+          };
     }
 
 abbrev same : (h g : Hub) → g .pads ≡ h .pads → g .codes ≡ h .codes → g .kinds ≡ h .kinds → g .names ≡ h .names → g .elements ≡ h .elements → g .counts ≡ h .counts → g .hats ≡ h .hats → g .converts ≡ h .converts → Desk h → Desk g
@@ -101,20 +109,48 @@ new-desk zero h d = d
 new-desk (suc number) h d = fresh-desk _ _ _ _ _
 
 module _ (h : Hub) (s : List ℕ) (d : Desk h) where
-  sheet-by : (taken : registerRefusal (h .pads) s ≡ 0) (p : ℕ) (older : Bool) → ltb p (h .pads) ≡ older → p < h .pads + 1 → Sheet (registerBy 0 h s .hub) p
-  sheet-by taken p true e short =
-      let old = ltb-true p (h .pads) e in
-      let w = d .sheets p old in
-      record { sheet = w .sheet; taken = w .taken; keeps = register-others h s (d .sized) (accepted (h .pads) s taken .0) p (w .sheet) old (w .keeps) }
-  sheet-by taken p false e short =
-      let past = ltb-false p (h .pads) e in
-      let own : h .pads ≡ p = omega arith in
+  -- the next pad has the sheet that it is given
+  next-sheet : registerRefusal (h .pads) s ≡ 0 → Sheet (registerBy 0 h s .hub) (h .pads)
+  unfolding registeredAt
+  next-sheet taken =
+      let stands = accepted (h .pads) s taken .0 in
       record {
         sheet = s;
         taken = accepted (h .pads) s taken .1;
-        keeps =
-            subst (λ (q : ℕ). Keeps (registerBy 0 h s .hub) q s) own (register-keeps h s (d .sized) (accepted (h .pads) s taken .0));
+        keeps = register-keeps h s (d .sized) stands;
+        converts = getD-set-same (h .converts) (h .pads) _ false (rw (d .sized .converts) stands);
       }
+
+  -- a pad before it keeps its own
+  old-sheet : registerRefusal (h .pads) s ≡ 0 → (p : ℕ) → p < h .pads → Sheet (registerBy 0 h s .hub) p
+  unfolding registeredAt
+  old-sheet taken p old =
+      let few = accepted (h .pads) s taken .0 in
+      let w = d .sheets p old in
+      let other : p ≡ h .pads → ⊥ = λ e. omega arith in
+      let keeps = register-others h s (d .sized) few p (w .sheet) old (w .keeps) in
+      let codes : SamePlaces (h .codes) (registeredAt h (h .pads) (hatsOf s) (countOf s) (rowsOf s (countOf s)) .codes) p =
+      record { at = λ j past from to. sym (laid-places (h .codes) (map rowCode (rowsOf s (countOf s))) p (h .pads) j past old to) } in
+      let names : SamePlaces (h .names) (registeredAt h (h .pads) (hatsOf s) (countOf s) (rowsOf s (countOf s)) .names) p =
+      record { at = λ j past from to. sym (laid-places (h .names) (map rowName (rowsOf s (countOf s))) p (h .pads) j past old to) } in
+      record {
+        sheet = w .sheet;
+        taken = w .taken;
+        keeps = keeps;
+        converts =
+            getD-set-other (h .converts) (h .pads) p _ false other
+            ∙ (w .converts
+            ∙ converts-same (h .codes) _ (h .names) _ p (omega arith) (keeps-rise h p (w .sheet) (w .taken) (w .keeps))
+            (keeps-rise (registerBy 0 h s .hub) p (w .sheet) (w .taken) keeps) codes names (d .sized .names) (register-sized h s (d .sized) .names)
+            (hatsOf (w .sheet)));
+      }
+
+  sheet-by : registerRefusal (h .pads) s ≡ 0 → (p : ℕ) (older : Bool) → ltb p (h .pads) ≡ older → p < h .pads + 1 → Sheet (registerBy 0 h s .hub) p
+  sheet-by taken p true e short = old-sheet taken p (ltb-true p (h .pads) e)
+  sheet-by taken p false e short =
+      let past = ltb-false p (h .pads) e in
+      let own : h .pads ≡ p = omega arith in
+      subst (λ (q : ℕ). Sheet (registerBy 0 h s .hub) q) own (next-sheet taken)
 
   register-desk : (number : ℕ) → registerRefusal (h .pads) s ≡ number → Desk (registerBy number h s .hub)
   register-desk zero e =
