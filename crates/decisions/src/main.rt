@@ -358,9 +358,7 @@ fn stored(case: &[u8; 104]) -> bool {
     if !agree(state::read_pressed(known, b), case[3] == 1) {
         return false;
     }
-    if binary32::bits_of(state::read_value(mark(before, 8), axis(case, 13), known, b))
-        != word(case, 23)
-    {
+    if binary32::bits_of(state::read_value(mark(before, 8), axis(case, 13), known, b)) != word(case, 23) {
         return false;
     }
     written(case)
