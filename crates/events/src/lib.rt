@@ -5,7 +5,6 @@ use rules::EventForm;
 use rules::EventType;
 use rules::Slot;
 ghost use mathlib.Core.Path.{_≡_};
-ghost use lib.Ieee.{binary32, ofBits, toBits};
 ghost use Rattle.rules.specs.Events.{kindType, nameType, codeType, valueType, droppedType, kindOf, nameOf, codeOf, valueOf, typeOf, slotOf, eventOf, formOf, formEvent, isDropped};
 ghost use Rattle.rules.specs.Filters.{keptOf};
 
@@ -203,46 +202,19 @@ pub fn event_of(s: Slot) -> Event
     }
 }
 
-// ---- the value as bits
-
-// the bits of infinity, above which all are a NaN's, and those of the sign
-const INFINITY: u32 = 0x7f80_0000;
-
-const SIGN: u32 = 0x8000_0000;
-// the NaN that IEEE 754 prefers
-const NAN: u32 = 0x7fc0_0000;
-
-// The value of any 32 bits; every NaN's bits give the one NaN, as IEEE 754 leaves its payload open.
-pub fn value_of_bits(bits: u32) -> f32
-    ensures { λ r. ⌜ r ≡ ofBits binary32 bits ⌝ }
-{
-    if INFINITY < bits % SIGN {
-        return 0.0 / 0.0;
-    }
-    f32::from_bits(bits)
-}
+// ---- an event and its form
 
 // The event of a form.
 pub fn form_event(f: EventForm) -> Event
     ensures { λ r. ⌜ r ≡ formEvent f ⌝ }
 {
-    let v = value_of_bits(f.bits);
+    let v = binary32::of_bits(f.bits);
     let t = type_of(f.kind, f.name, f.code, v);
     Event {
         pad: f.pad,
         time: f.time,
         event: t,
     }
-}
-
-// The bits of any value; NaN has the bits that IEEE 754 prefers.
-pub fn bits_of_value(x: f32) -> u32
-    ensures { λ r. ⌜ r ≡ toBits binary32 x ⌝ }
-{
-    if x != x {
-        return NAN;
-    }
-    f32::to_bits(x)
 }
 
 // An event as its bytes will have it.
@@ -254,7 +226,7 @@ pub fn form_of(e: Event) -> EventForm
         pad: e.pad,
         name: name_of(e),
         code: code_of(e),
-        bits: bits_of_value(value_of(e)),
+        bits: binary32::bits_of(value_of(e)),
         time: e.time,
     }
 }

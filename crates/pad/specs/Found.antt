@@ -1,5 +1,5 @@
 -- What the lookups of `pad` answer: the place that the law book defines, and its bound, which callers index by. Definitions only. Assumes nothing.
-use Prim.Native.Nat.{ℕ, _*_, _+_, _≤_}
+use Prim.Native.Nat.{ℕ, _+_, _≤_}
 use mathlib.Core.List.{List}
 use mathlib.Core.Path.{_≡_}
 use Rattle.rules.specs.Names.{placesPerPad, nowhere}

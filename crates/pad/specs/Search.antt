@@ -1,17 +1,15 @@
 -- Laws of the two searches, one for each turn of their loops: how the halving search goes on, below and above the middle, and how the scan does; and
 -- what the check behind the halving search answers. By the tests that the definitions make. Assumes nothing.
 use Prim.Native.Nat.{ℕ, zero, suc, _+_, _-_, _*_, _/_, _^_, _<_, _≤_}
-use mathlib.Core.Bool.{Bool, true, false, cond}
 use mathlib.Core.List.{List}
 use mathlib.Core.Path.{_≡_, refl, sym, _∙_, ap}
 use native.Mathlib.Nat.{pow-suc}
 use native.Mathlib.Numerals.{sub-one}
 use native.Mathlib.Omega.{arith}
-use lib.Dec.{eqb, ltb}
 use lib.ListN.{getD}
 use borrow.Author.Tests.{lt-ltb, le-ltb, eq-eqb, ne-eqb}
 use Rattle.rules.specs.Names.{padLimit, placesPerPad, nowhere}
-use Rattle.rules.specs.Places.{halvings, seekOf, checkedOf, placeOf, scanOf, namedOf}
+use Rattle.rules.specs.Places.{halvings, seekOf, checkedOf, placeOf, scanOf}
 
 -- ---- the halving search
 

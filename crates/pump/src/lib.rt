@@ -2,7 +2,7 @@
 ghost use mathlib.Core.Path.{_≡_};
 ghost use Prim.Native.Nat.{_<_};
 ghost use Rattle.rules.specs.Pump.{pumpOf};
-ghost use Rattle.pump.specs.Laws.{run};
+ghost use Rattle.steps.specs.Runs.{leaves};
 use rules::Hub;
 use rules::PumpAnswer;
 use rules::Pumped;
@@ -20,7 +20,7 @@ fn wide(x: u8) -> usize
 }
 
 pub fn pump(hub: Hub, batch: &[u8], place: usize, out: &mut [u8], allowance: u16) -> Pumped
-    ensures { λ r. ⌜ run r (now (out .exit)) ≡ pumpOf hub (now (batch .entry)) place (now (out .entry)) allowance ⌝ }
+    ensures { λ r. ⌜ leaves r (now (out .exit)) ≡ pumpOf hub (now (batch .entry)) place (now (out .entry)) allowance ⌝ }
 {
     let mut h = hub;
     let refused = refusals::pump_refusal(batch.len(), out.len(), place);

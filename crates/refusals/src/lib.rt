@@ -55,13 +55,13 @@ fn chosen(test: bool, number: u8, other: u8) -> u8
 
 // ---- in order: a number where the input does not fit, and the first number that there is
 
-fn unless_fits(fits: bool, number: u8) -> u8
+pub fn unless_fits(fits: bool, number: u8) -> u8
     ensures { λ r. ⌜ r ≡ unlessFits fits number ⌝ }
 {
     if fits { 0 } else { number }
 }
 
-fn first(a: u8, b: u8) -> u8
+pub fn first(a: u8, b: u8) -> u8
     ensures { λ r. ⌜ r ≡ Refusals.first a b ⌝ }
 {
     if a == 0 { b } else { a }

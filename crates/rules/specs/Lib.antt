@@ -15,4 +15,4 @@ pub mod Calls
 pub mod Queries
 pub mod Answers
 pub mod Example
-pub mod Examples
+mod Examples

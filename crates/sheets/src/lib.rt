@@ -1,19 +1,25 @@
 // Pad sheets and rename lists read from lent bytes: the sheet's hats and elements, or the refusals 3, 4 and 5 in that order.
 use names::NO_NAME;
+use refusals::first;
+use refusals::unless_fits;
 use rules::SheetElement;
 use rules::SheetRead;
 ghost use mathlib.Core.Path.{_≡_};
-ghost use Prim.Native.Nat.{_+_, _*_, _≤_, _<_};
+ghost use Prim.Native.Nat.{_+_, _-_, _*_, _≤_, _<_};
 ghost use lib.ListN.{length};
 ghost use lib.Signed.{ltZ};
 ghost use Rattle.rules.specs.Names.{nameAllowed};
-ghost use Rattle.rules.specs.Sheets.{elementFields, elementOf, sheetFits, isZero, buttonFits, axisFits, elementFits, elementsFit, standsIn, standsTwice, sheetRefusal, readSheet, namesFit, renameListRefusal};
+ghost use Rattle.sheets.specs.Spread.{Spread, standsAgain};
+ghost use Rattle.rules.specs.Sheets.{elementFields, elementOf, sheetFits, isZero, buttonFits, axisFits, elementFits, rises, elementsFit, standsIn, standsTwice, sheetRefusal, readSheet, namesFit, renameListRefusal};
 
 // ---- sizes, kinds and limits
 
 const SHEET_OPENING: usize = 5;
 
 const ELEMENT_SIZE: usize = 18;
+
+// where in an element its name stands
+const NAME_OFFSET: usize = 5;
 
 const ELEMENT_BUTTON: u8 = 1;
 
@@ -125,4 +131,153 @@ fn element_fits(e: SheetElement) -> bool
         return axis_fits(e);
     }
     false
+}
+
+// "Codes strictly rise": the i-th element's code is above that of the one before it.
+fn rises_at(s: &[u8], i: usize) -> bool
+    requires { ⌜ 5 + 18 * i + 18 ≤ length (now s) ⌝ }
+    ensures { λ r. ⌜ r ≡ rises (now (s .entry)) i ⌝ }
+{
+    if i == 0 {
+        return true;
+    }
+    let before = element(s, i - 1);
+    let here = element(s, i);
+    before.code < here.code
+}
+
+// Every one of the elements keeps to its rules.
+fn elements_fit(s: &[u8], count: usize) -> bool
+    requires { ⌜ 5 + 18 * count ≤ length (now s) ⌝ }
+    ensures { λ r. ⌜ r ≡ elementsFit (now (s .entry)) count 0 ⌝ }
+{
+    let mut i: usize = 0;
+    while i < count {
+        if !element_fits(element(s, i)) {
+            return false;
+        }
+        if !rises_at(s, i) {
+            return false;
+        }
+        i += 1;
+    }
+    true
+}
+
+// ---- 5: "a name stands twice"
+
+// Names stand in bytes at start, start + stride, ..: every 18th byte of a sheet, every byte of a rename list. The name is among those from a
+// number on.
+fn stands_in(s: &[u8], start: usize, stride: usize, name: u8, first: usize, count: usize) -> bool
+    requires { ⌜ Spread (now s) start stride count ⌝ }
+    ensures { λ r. ⌜ r ≡ standsIn (now (s .entry)) start stride name (count - first) first ⌝ }
+{
+    let mut i = first;
+    while i < count {
+        if s[start + stride * i] == name {
+            return true;
+        }
+        i += 1;
+    }
+    false
+}
+
+// The i-th name stands again behind it; "none but 255 twice".
+fn stands_again(s: &[u8], start: usize, stride: usize, i: usize, count: usize) -> bool
+    requires { ⌜ (Spread (now s) start stride count) × (i < count) ⌝ }
+    ensures { λ r. ⌜ r ≡ standsAgain (now (s .entry)) start stride count i ⌝ }
+{
+    let name = s[start + stride * i];
+    if name == NO_NAME {
+        return false;
+    }
+    stands_in(s, start, stride, name, i + 1, count)
+}
+
+fn stands_twice(s: &[u8], start: usize, stride: usize, count: usize) -> bool
+    requires { ⌜ Spread (now s) start stride count ⌝ }
+    ensures { λ r. ⌜ r ≡ standsTwice (now (s .entry)) start stride count 0 ⌝ }
+{
+    let mut i: usize = 0;
+    while i < count {
+        if stands_again(s, start, stride, i, count) {
+            return true;
+        }
+        i += 1;
+    }
+    false
+}
+
+// ---- sheets
+
+// 3: "sheet's size, count, version or n wrong"
+fn sheet_fits(s: &[u8]) -> bool
+    ensures { λ r. ⌜ r ≡ sheetFits (now (s .entry)) ⌝ }
+{
+    let size = s.len();
+    if size < SHEET_OPENING {
+        return false;
+    }
+    let count = s[4];
+    if size != SHEET_OPENING + ELEMENT_SIZE * (count as usize) {
+        return false;
+    }
+    if !wire::opens_as(s, 0, size) {
+        return false;
+    }
+    count <= ELEMENT_LIMIT
+}
+
+// "Sheet order: 2, 3, 4, 5"; 0 where the sheet is good.
+pub fn sheet_refusal(s: &[u8]) -> u8
+    ensures { λ r. ⌜ r ≡ sheetRefusal (now (s .entry)) ⌝ }
+{
+    if !sheet_fits(s) {
+        return 3;
+    }
+    let count = s[4] as usize;
+    let hats = unless_fits(!(LAST_HATS < s[3]), 4);
+    let rules = unless_fits(elements_fit(s, count), 4);
+    let names = unless_fits(
+        !stands_twice(s, SHEET_OPENING + NAME_OFFSET, ELEMENT_SIZE, count),
+        5,
+    );
+    first(hats, first(rules, names))
+}
+
+pub fn read_sheet(s: &[u8]) -> SheetRead
+    ensures { λ r. ⌜ r ≡ readSheet (now (s .entry)) ⌝ }
+{
+    let number = sheet_refusal(s);
+    if number == 0 {
+        return SheetRead::Sheet(s[3], s[4]);
+    }
+    SheetRead::Refused(number)
+}
+
+// ---- rename lists
+
+fn names_fit(s: &[u8]) -> bool
+    ensures { λ r. ⌜ r ≡ namesFit (now (s .entry)) (length (now (s .entry))) 0 ⌝ }
+{
+    let mut i: usize = 0;
+    while i < s.len() {
+        if !name_allowed(s[i]) {
+            return false;
+        }
+        i += 1;
+    }
+    true
+}
+
+// "rename list not one name per element" 3, a name that is none 4, a name twice 5; 0 where the list is good.
+pub fn rename_list_refusal(s: &[u8], count: u8) -> u8
+    ensures { λ r. ⌜ r ≡ renameListRefusal (now (s .entry)) count ⌝ }
+{
+    if s.len() != count as usize {
+        return 3;
+    }
+    let allowed = unless_fits(names_fit(s), 4);
+    let once = unless_fits(!stands_twice(s, 0, 1, count as usize), 5);
+    first(allowed, once)
 }

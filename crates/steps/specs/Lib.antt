@@ -3,3 +3,4 @@ pub mod Records
 pub mod Turns
 pub mod Updates
 pub mod Parts
+pub mod Going

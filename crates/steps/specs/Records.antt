@@ -12,8 +12,12 @@ use Rattle.rules.specs.declared.Looked.{Looked}
 use Rattle.rules.specs.declared.RawRecord.{RawRecord}
 use Rattle.rules.specs.Forms.{recordSize, recordFits, recordFields, readRecord, pickRecord}
 use Rattle.rules.specs.Refusals.{recordRefusal, fieldsRefusal, elementRefusal, standsOf, timeFits, first, unlessFits}
-use Rattle.rules.specs.Step.{lookedOf, lookedBy}
+use Rattle.rules.specs.Places.{placeOf}
+use Rattle.rules.specs.Step.{lookedOf, lookedBy, recordKind, stepRefusal}
 use Rattle.rules.specs.Pump.{placeAfter}
+use Rattle.rules.specs.declared.Hub.{Hub}
+use Rattle.gather.specs.declared.Found.{Found}
+use Rattle.gather.specs.Sight.{foundAt}
 
 -- where the first of two numbers is none, both are none
 none-by : (t : Bool) (a b : ℕ) → eqb a 0 ≡ t → cond t b a ≤ 0 → (a ≤ 0) × (b ≤ 0)
@@ -79,3 +83,17 @@ place-by false s at pads kind blank h z = let w = whole s at (taken (lookedBy (r
 pub place-small : (waiting : ℕ) (s : List ℕ) (at pads kind : ℕ) {l : Looked} {number place : ℕ} → l ≡ lookedOf waiting s at → number ≡ cond (ltb 0 waiting) 0 (recordRefusal l pads kind) → number ≤ 0 → place ≡ placeAfter waiting at → at ≤ length s → place ≤ length s
 unfolding lookedOf placeAfter
 place-small waiting s at pads kind el en z ep h = rw ep (place-by (ltb 0 waiting) s at pads kind _ h (rw el at (rw en at z)))
+
+-- ---- the refusal that the code worked out is the step's
+
+pub refusal-is :
+    (h : Hub) (s : List ℕ) (at : ℕ) {l : Looked} {found : Found} {number : ℕ} →
+    l ≡ lookedOf (h .waiting) s at →
+    found ≡ foundAt (h .kinds) (h .names) (h .renames) (h .renamed) (h .touched) (l .raw .pad) (placeOf (h .codes) (l .raw .pad) (l .raw .code)) →
+    number ≡ cond (ltb 0 (h .waiting)) 0 (recordRefusal l (h .pads) (found .kind)) →
+    number ≡ stepRefusal h (lookedOf (h .waiting) s at)
+unfolding stepRefusal recordKind foundAt
+refusal-is h s at {l} el ef en = en ∙ by-found h l ef ∙ ap (stepRefusal h) el
+  where
+    by-found : (h : Hub) (l : Looked) {found : Found} → found ≡ foundAt (h .kinds) (h .names) (h .renames) (h .renamed) (h .touched) (l .raw .pad) (placeOf (h .codes) (l .raw .pad) (l .raw .code)) → cond (ltb 0 (h .waiting)) 0 (recordRefusal l (h .pads) (found .kind)) ≡ stepRefusal h l
+    by-found h l ef = ap (λ (x : Found). cond (ltb 0 (h .waiting)) 0 (recordRefusal l (h .pads) (x .kind))) ef

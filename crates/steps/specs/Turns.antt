@@ -275,6 +275,100 @@ turned h l {m} {u} {d} {f} {z} em ed ef ez eu =
           (ef ∙ ap (λ (x : Hub). filteredIn x (d .event)) em ∙ ap (λ (x : Dispatched). filteredIn (markedOf h (l .raw)) (x .event)) ed);
     }
 
+-- the whole turn, from what each call of it answers
+pub turn-is :
+    (h : Hub) (l : Looked) {p marks flags head waiting front name code : ℕ} {connected renamed touched moved flagged first both : List Bool} {found : Found}
+    {d : Dispatched} {s : Sight} {v : View} {f : Filtered} {u : Hub} {es : List Event} →
+    found ≡ foundAt (h .kinds) (h .names) (h .renames) (h .renamed) (h .touched) (l .raw .pad) (placeOf (h .codes) (l .raw .pad) (l .raw .code)) →
+    front ≡ h .head % queueRoom →
+    d ≡ takenBy (h .waiting) (getD (h .queue) front pastSlot) (l .raw) found (getD (h .elements) (found .place) pastElement) (getD (h .buttons) (found .place) pastButton) (h .pressed) (h .released) (h .reversed) →
+    p ≡ l .raw .pad →
+    marks ≡ joinRun (l .raw .kind) placesPerPad →
+    flags ≡ joinRun (l .raw .kind) flagsPerPad →
+    connected ≡ connectedAfter (h .connected) (l .raw .pad) (l .raw .kind) →
+    renamed ≡ renamedAfter (h .renamed) (l .raw .pad) (l .raw .kind) →
+    touched ≡ clearedOf (h .touched) (placesPerPad * p) marks →
+    moved ≡ clearedOf (h .moved) (placesPerPad * p) marks →
+    flagged ≡ clearedOf (h .flags) (flagsPerPad * p) flags →
+    head ≡ headAfter (h .head) (h .waiting) →
+    waiting ≡ h .waiting - 1 →
+    name ≡ nameOf (d .event) →
+    code ≡ codeOf (d .event) →
+    SightIs (h .codes) (h .kinds) (h .names) (h .renames) renamed (h .converts) (h .reconverts) touched moved flagged (d .event .pad) name code s →
+    v ≡ viewBy s (getD (h .elements) (s .own .place) pastElement) (getD (h .buttons) (s .own .place) pastButton) (getD (h .axes) (s .own .place) pastAxis) (getD (h .buttons) (s .positive .place) pastButton) (getD (h .buttons) (s .negative .place) pastButton) (getD (h .buttons) (s .partner .place) pastButton) (getD (h .axes) (s .partner .place) pastAxis) →
+    f ≡ filteredOf (h .filters) v (d .event) →
+    first ≡ set flagged (s .flag) (f .flags .own) →
+    both ≡ set first (s .other) (f .flags .partner) →
+    es ≡ pushesOf d (f .gives) →
+    u
+    ≡ queuedHub
+    (record {
+      pressed = h .pressed;
+      released = h .released;
+      reversed = h .reversed;
+      filters = h .filters;
+      updates = h .updates;
+      counter = h .counter;
+      pads = h .pads;
+      counts = h .counts;
+      connected = connected;
+      hats = h .hats;
+      converts = h .converts;
+      renamed = renamed;
+      rehats = h .rehats;
+      reconverts = h .reconverts;
+      codes = h .codes;
+      kinds = h .kinds;
+      names = h .names;
+      renames = h .renames;
+      elements = h .elements;
+      touched = touched;
+      buttons = h .buttons;
+      moved = moved;
+      axes = h .axes;
+      flags = both;
+      queue = h .queue;
+      head = head;
+      waiting = waiting;
+    })
+    es →
+    Turned h l u (f .gives .event)
+turn-is h l {head = head} {waiting = waiting} {connected = connected} {renamed = renamed} {touched = touched} {moved = moved} {flagged = flagged} {d = d} {s = s} {v = v} {f = f} efound efront ed ep em eg ec er et ev ef eh ew en eo seen ein efil e1 e2 es eu =
+    turned h l (marked-is h (l .raw) ep em eg ec er et ev ef eh ew) (taken-is h l efound efront ed) (filtered-is marked d en eo seen ein efil) refl
+    (turned-is marked d en eo seen ein efil e1 e2 es eu)
+  where
+    marked : Hub
+    marked =
+        record {
+          pressed = h .pressed;
+          released = h .released;
+          reversed = h .reversed;
+          filters = h .filters;
+          updates = h .updates;
+          counter = h .counter;
+          pads = h .pads;
+          counts = h .counts;
+          connected = connected;
+          hats = h .hats;
+          converts = h .converts;
+          renamed = renamed;
+          rehats = h .rehats;
+          reconverts = h .reconverts;
+          codes = h .codes;
+          kinds = h .kinds;
+          names = h .names;
+          renames = h .renames;
+          elements = h .elements;
+          touched = touched;
+          buttons = h .buttons;
+          moved = moved;
+          axes = h .axes;
+          flags = flagged;
+          queue = h .queue;
+          head = head;
+          waiting = waiting;
+        }
+
 same-filters : (h : Hub) (r : RawRecord) (d : Dispatched) → turnedOf (markedOf h r) d .filters ≡ h .filters
 unfolding turnedOf pushedOf markedOf
 same-filters h r d = refl

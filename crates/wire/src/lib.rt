@@ -14,11 +14,10 @@ ghost use mathlib.Core.Path.{_≡_};
 ghost use mathlib.Core.List.{_++_};
 ghost use Prim.Native.Nat.{_+_, _≤_, _<_, _^_};
 ghost use lib.ListN.{length, drop};
-ghost use Rattle.rules.specs.Forms.{fieldOf, signedOf, opens, recordKindFits, recordFields, readRecord, nameFits, eventKindFits, eventFields, readEvent};
+ghost use Rattle.rules.specs.Forms.{fieldOf, signedOf, opens, recordKindFits, readRecord, nameFits, eventKindFits, readEvent};
 ghost use Rattle.rules.specs.Events.{eventBytes};
 ghost use Rattle.rules.specs.Step.{lookedOf};
 ghost use Rattle.wire.specs.Bytes.{writtenOf};
-ghost use Rattle.rules.specs.Refusals.{valueFits, timeFits};
 
 // ---- sizes, kinds and limits
 
@@ -35,12 +34,6 @@ const KIND_AXIS: u8 = 3;
 const KIND_CONNECTED: u8 = 4;
 
 const KIND_DISCONNECTED: u8 = 5;
-// the bits of 1.0, and those of the sign
-const ONE: u32 = 0x3f80_0000;
-
-const SIGN: u32 = 0x8000_0000;
-// 2^62 - 1 microseconds
-const LAST_TIME: u64 = 0x3fff_ffff_ffff_ffff;
 
 // ---- fields
 
@@ -233,21 +226,6 @@ pub fn read_event(s: &[u8]) -> EventRead
         time: read8(s, 14),
     };
     EventRead::Form(form)
-}
-
-// ---- 11 and 12, which the caller asks after 6, 9 and 10
-
-// "event value not finite in -1..1": a NaN, an infinity and a size over 1 all lie above the bits of 1.0.
-pub fn value_fits(bits: u32) -> bool
-    ensures { λ r. ⌜ r ≡ valueFits bits ⌝ }
-{
-    bits % SIGN <= ONE
-}
-
-pub fn time_fits(time: u64) -> bool
-    ensures { λ r. ⌜ r ≡ timeFits time ⌝ }
-{
-    time <= LAST_TIME
 }
 
 // ---- an event written

@@ -16,8 +16,8 @@ code-of-requires c κs = search needs
 value-of-requires : tie.Need-value-of-requires
 value-of-requires c κs = search needs
 
-bits-of-value-requires : tie.Need-bits-of-value-requires
-bits-of-value-requires c κs = search needs
+bits-of-requires : tie.Need-bits-of-requires
+bits-of-requires c κs = search needs
 
 returns : tie.Need-returns
 unfolding formOf
@@ -26,7 +26,7 @@ returns c =
       c .before .before .before .before .kind-of .ensures,
       c .before .before .before .name-of .ensures,
       c .before .before .code-of .ensures,
-      c .bits-of-value .ensures,
+      c .bits-of .ensures,
       c .before .value-of .ensures,
     )
 
@@ -38,5 +38,5 @@ form-of-spec =
     name-of-requires
     code-of-requires
     value-of-requires
-    bits-of-value-requires
+    bits-of-requires
     returns)

@@ -1,7 +1,5 @@
 -- `events::kept` meets its contract, by the flag. Assumes nothing.
 use borrow.Author.Needs.{needs}
-use mathlib.Core.Path.{ap}
-use mathlib.Core.Bool.{Bool, not}
 use Rattle.rules.specs.Filters.{keptOf}
 use Rattle.events.proofs.kept.Statement.{statement}
 use Rattle.events.proofs.kept.Tie as tie

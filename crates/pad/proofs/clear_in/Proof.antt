@@ -3,7 +3,6 @@
 use mathlib.Core.Path.{_≡_, refl, sym, _∙_}
 use native.Mathlib.Omega.{arith}
 use lib.ListN.{length, length-set}
-use borrow.Author.Needs.{needs}
 use Rattle.rules.specs.Places.{clearedOf}
 use Rattle.pad.proofs.Columns.{cleared-past, cleared-none, cleared-next}
 use Rattle.pad.proofs.clear_in.Statement.{statement}

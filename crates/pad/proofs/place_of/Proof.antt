@@ -1,11 +1,7 @@
 -- `pad::place_of` meets its contract: the search's place is answered where the check of the definition passes. Assumes nothing.
-use Prim.Native.Nat.{_*_}
 use mathlib.Core.Path.{refl}
 use native.Mathlib.Omega.{arith}
 use borrow.Author.Needs.{needs}
-use denote.Ref.{now}
-use Rattle.rules.specs.Names.{placesPerPad}
-use Rattle.rules.specs.Places.{halvings, seekOf}
 use Rattle.pad.specs.Search.{checked-no-pad, checked-outside, checked-other, checked-same, searched}
 use Rattle.pad.proofs.place_of.Statement.{statement}
 use Rattle.pad.proofs.place_of.Tie as tie

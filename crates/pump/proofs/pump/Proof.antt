@@ -1,518 +1,445 @@
+-- `pump::pump` meets its contract. At the head of each loop the run that is left from where the pump stands is the whole run; a turn of the inner loop is
+-- one step of the law book, by the laws of `steps`, fed with what each call ensures; the push loop keeps the hub with the rest pushed. The measure is what is
+-- left of the allowance. Assumes nothing.
+use borrow.Author.Needs.{needs}
+use Prim.Native.Nat.{ℕ, _+_, _-_, _*_, _^_, _≤_, _<_}
+use mathlib.Core.Path.{_≡_, refl, sym, _∙_}
+use lib.ListN.{length, length-drop, length-take}
+use denote.Ref.{now}
+use native.Mathlib.Omega.{arith}
+use Rattle.turn.specs.Turn.{part, unmapped}
+use Rattle.steps.specs.Runs.{rest, standing, Roomy, roomy, accepted, run-stops, run-refuses, run-goes, pump-refuses, pump-runs}
+use Rattle.steps.specs.Records.{taken-within, place-small, refusal-is}
+use Rattle.steps.specs.Turns.{queuedHub, push-one, push-done, Turned, turn-is, step-skips, step-keeps}
+use Rattle.steps.specs.Updates.{update-is}
+use Rattle.steps.specs.Parts.{put-is, put-length}
+use Rattle.steps.specs.Going.{Going}
 use Rattle.pump.proofs.pump.Statement.{statement}
 use Rattle.pump.proofs.pump.Tie as tie
-use Rattle.pump.proofs.pump.Reads as reads
-use Rattle.pump.proofs.pump.Lts as lts
-use Rattle.events.proofs.code_of.Reads as code-of-reads
-use Rattle.events.proofs.kept.Reads as kept-reads
-use Rattle.events.proofs.name_of.Reads as name-of-reads
-use Rattle.events.proofs.slot_of.Reads as slot-of-reads
-use Rattle.filters.proofs.filtered.Reads as filtered-reads
-use Rattle.gather.proofs.find.Reads as find-reads
-use Rattle.gather.proofs.sighted.Reads as sighted-reads
-use Rattle.gather.proofs.view_of.Reads as view-of-reads
-use Rattle.pad.proofs.bool_at.Reads as bool-at-reads
-use Rattle.pad.proofs.clear.Reads as clear-reads
-use Rattle.pad.proofs.clear_flags.Reads as clear-flags-reads
-use Rattle.pad.proofs.mark.Reads as mark-reads
-use Rattle.pad.proofs.mark_flag.Reads as mark-flag-reads
-use Rattle.pad.proofs.place_of.Reads as place-of-reads
-use Rattle.pump.proofs.wide.Reads as wide-reads
-use Rattle.refusals.proofs.pump_refusal.Reads as pump-refusal-reads
-use Rattle.state.proofs.writes_axis.Reads as writes-axis-reads
-use Rattle.state.proofs.writes_button.Reads as writes-button-reads
-use Rattle.turn.proofs.axis_written.Reads as axis-written-reads
-use Rattle.turn.proofs.button_written.Reads as button-written-reads
-use Rattle.turn.proofs.connect.Reads as connect-reads
-use Rattle.turn.proofs.fewer.Reads as fewer-reads
-use Rattle.turn.proofs.forget.Reads as forget-reads
-use Rattle.turn.proofs.free.Reads as free-reads
-use Rattle.turn.proofs.front.Reads as front-reads
-use Rattle.turn.proofs.head_after.Reads as head-after-reads
-use Rattle.turn.proofs.join_run.Reads as join-run-reads
-use Rattle.turn.proofs.known_after.Reads as known-after-reads
-use Rattle.turn.proofs.longer.Reads as longer-reads
-use Rattle.turn.proofs.place_after.Reads as place-after-reads
-use Rattle.turn.proofs.pushed.Reads as pushed-reads
-use Rattle.turn.proofs.refusal.Reads as refusal-reads
-use Rattle.turn.proofs.stop.Reads as stop-reads
-use Rattle.turn.proofs.stop_answer.Reads as stop-answer-reads
-use Rattle.turn.proofs.take.Reads as take-reads
-use Rattle.wire.proofs.look.Reads as look-reads
-use Rattle.wire.proofs.write_event.Reads as write-event-reads
 
 abbrev Inv-loop3 : tie.InvT-loop3
 Inv-loop3 batch place out allowance h₀ refused at events steps left waiting why number k front p marks flags o i j q g w x₀ end h x =
-    ?
+    (x ≤ end) × (end ≤ 5) × (length (w .events) ≡ 5) × (queuedHub h (part (w .events) x end) ≡ queuedHub h₀ (part (w .events) x₀ end))
 
 abbrev μ-loop3 : tie.MeasureT-loop3
-μ-loop3 batch place out allowance h₀ refused at events steps left waiting why number k front p marks flags o i j q g w x₀ end h x =
-    ?
+μ-loop3 batch place out allowance h₀ refused at events steps left waiting why number k front p marks flags o i j q g w x₀ end h x = end - x
 
 abbrev Inv-loop2 : tie.InvT-loop2
-Inv-loop2 batch place out allowance h₀ refused at₀ events steps₀ left₀ h at steps left = ?
+Inv-loop2 batch place out allowance h₀ refused at₀ events steps₀ left₀ h at steps left =
+    Going h batch at out events steps left (rest left₀ batch (standing h₀ at₀ out events steps₀)) × (left ≤ left₀)
 
 abbrev μ-loop2 : tie.MeasureT-loop2
-μ-loop2 batch place out allowance h₀ refused at₀ events steps₀ left₀ h at steps left = ?
+μ-loop2 batch place out allowance h₀ refused at₀ events steps₀ left₀ h at steps left = left
 
 abbrev Inv-loop : tie.InvT-loop
 Inv-loop batch place out₀ allowance h₀ refused at₀ events₀ steps₀ left₀ out h at events steps left =
-    ?
+    Going h batch at out events steps left (rest left₀ batch (standing h₀ at₀ out₀ events₀ steps₀)) × (length out ≡ length out₀)
 
 abbrev μ-loop : tie.MeasureT-loop
-μ-loop batch place out₀ allowance h₀ refused at₀ events₀ steps₀ left₀ out h at events steps left =
-    ?
+μ-loop batch place out₀ allowance h₀ refused at₀ events₀ steps₀ left₀ out h at events steps left = left
 
--- src/lib.rt:24:9
-pump-refusal-requires :
-    tie.Need-pump-refusal-requires Inv-loop3 μ-loop3 Inv-loop2 μ-loop2 Inv-loop μ-loop
-pump-refusal-requires c κs = ?
+-- where no stop is answered there is room for an event, and a step is left
+room : (c : tie.Else2 Inv-loop3 μ-loop3 Inv-loop2 μ-loop2 Inv-loop μ-loop) → (22 * c .before .before .before .loop .events + 22 ≤ length (c .before .before .before .loop .out)) × (length (c .before .before .before .loop .out) ≤ 16384) × (0 < c .before .before .loop2 .left)
+room c =
+    let l = c .before .before .loop2 in
+    let o = c .before .before .before .loop in
+    let g = roomy (l .h .waiting) (length (now (c .before .before .before .before .before .before .before .before .args .batch)) - l .at) (length (o .out) - 22 * o .events) (l .left) (c .before .stop .ensures) (c .if2 .left) in
+    let i = l .inv .0 in
+    (omega arith, i .out-small, g .step-left)
 
--- src/lib.rt:26:9
+-- the turn, put together
+turns : (c : tie.After-loop3 Inv-loop3 μ-loop3 Inv-loop2 μ-loop2 Inv-loop μ-loop) → Turned (c .before .before .before .before .before .before .before .before .before .before .before .before .before .before .before .before .before .before .before .before .before .before .before .before .before .before .before .before .before .before .before .before .before .before .before .before .before .before .before .before .before .before .before .before .before .before .before .before .before .before .before .before .before .before .before .before .before .before .before .before .before .before .before .before .before .before .before .before .before .before .before .before .loop2 .h) (c .before .before .before .before .before .before .before .before .before .before .before .before .before .before .before .before .before .before .before .before .before .before .before .before .before .before .before .before .before .before .before .before .before .before .before .before .before .before .before .before .before .before .before .before .before .before .before .before .before .before .before .before .before .before .before .before .before .before .before .before .before .before .before .before .before .before .before .before .before .look .result) (c .before .loop3 .h) (c .before .before .before .before .before .before .before .before .before .filtered .result .gives .event)
+turns c =
+    let w = c .before .before .pushed .result in
+    let i = c .before .loop3 .inv in
+    let few : w .end ≤ length (w .events) = omega (arith, i .1, i .2) in
+    turn-is (c .before .before .before .before .before .before .before .before .before .before .before .before .before .before .before .before .before .before .before .before .before .before .before .before .before .before .before .before .before .before .before .before .before .before .before .before .before .before .before .before .before .before .before .before .before .before .before .before .before .before .before .before .before .before .before .before .before .before .before .before .before .before .before .before .before .before .before .before .before .before .before .before .loop2 .h) (c .before .before .before .before .before .before .before .before .before .before .before .before .before .before .before .before .before .before .before .before .before .before .before .before .before .before .before .before .before .before .before .before .before .before .before .before .before .before .before .before .before .before .before .before .before .before .before .before .before .before .before .before .before .before .before .before .before .before .before .before .before .before .before .before .before .before .before .before .before .look .result) (c .before .before .before .before .before .before .before .before .before .before .before .before .before .before .before .before .before .before .before .before .before .before .before .before .before .before .before .before .before .before .before .before .before .before .before .before .before .before .before .before .before .before .before .before .before .before .before .before .before .before .before .before .before .before .before .before .before .before .before .before .find .ensures .is) (c .before .before .before .before .before .before .before .before .before .before .before .before .before .before .before .before .before .before .before .before .before .before .before .before .before .before .before .before .before .before .before .before .before .before .before .before .before .before .before .before .before .before .before .before .before .before .before .before .before .before .before .before .before .before .before .front .ensures .is) (c .before .before .before .before .before .before .before .before .before .before .before .before .before .before .before .before .before .before .before .before .before .before .before .before .before .before .before .before .before .before .before .before .before .before .before .before .before .before .before .before .before .before .before .before .before .before .before .before .before .before .before .before .before .take .ensures)
+    (c .before .before .before .before .before .before .before .before .before .before .before .before .before .before .before .before .before .before .before .before .before .before .before .before .before .before .before .before .before .before .before .before .before .before .before .before .before .before .before .before .before .before .before .before .before .before .before .before .before .before .before .before .wide .ensures .0) (c .before .before .before .before .before .before .before .before .before .before .before .before .before .before .before .before .before .before .before .before .before .before .before .before .before .before .before .before .before .before .before .before .before .before .before .before .before .before .before .before .before .before .before .before .before .before .before .before .before .before .before .join-run .ensures) (c .before .before .before .before .before .before .before .before .before .before .before .before .before .before .before .before .before .before .before .before .before .before .before .before .before .before .before .before .before .before .before .before .before .before .before .before .before .before .before .before .before .before .before .before .before .before .before .before .before .before .join-run2 .ensures) (c .before .before .before .before .before .before .before .before .before .before .before .before .before .before .before .before .before .before .before .before .before .before .before .before .before .before .before .before .before .before .before .before .before .before .before .before .before .before .before .before .before .before .before .before .before .before .before .before .connect .ensures)
+    (c .before .before .before .before .before .before .before .before .before .before .before .before .before .before .before .before .before .before .before .before .before .before .before .before .before .before .before .before .before .before .before .before .before .before .before .before .before .before .before .before .before .before .before .before .before .before .forget .ensures) (c .before .before .before .before .before .before .before .before .before .before .before .before .before .before .before .before .before .before .before .before .before .before .before .before .before .before .before .before .before .before .before .before .before .before .before .before .before .before .before .before .before .before .before .before .clear .ensures) (c .before .before .before .before .before .before .before .before .before .before .before .before .before .before .before .before .before .before .before .before .before .before .before .before .before .before .before .before .before .before .before .before .before .before .before .before .before .before .before .before .before .before .clear2 .ensures) (c .before .before .before .before .before .before .before .before .before .before .before .before .before .before .before .before .before .before .before .before .before .before .before .before .before .before .before .before .before .before .before .before .before .before .before .before .before .before .before .before .clear-flags .ensures)
+    (c .before .before .before .before .before .before .before .before .before .before .before .before .before .before .before .before .before .before .before .before .before .before .before .before .before .before .before .before .before .before .before .before .before .before .before .before .before .before .before .head-after .ensures) (c .before .before .before .before .before .before .before .before .before .before .before .before .before .before .before .before .before .before .before .before .before .before .before .before .before .before .before .before .before .before .before .before .before .before .before .before .before .before .fewer .ensures) (c .before .before .before .before .before .before .before .before .before .before .before .before .before .before .before .before .before .before .before .before .before .before .before .before .name-of .ensures) (c .before .before .before .before .before .before .before .before .before .before .before .before .before .before .before .before .before .before .before .before .before .before .before .code-of .ensures)
+    (c .before .before .before .before .before .before .before .before .before .before .before .before .before .before .before .before .before .before .before .before .before .before .sighted .ensures) (c .before .before .before .before .before .before .before .before .before .before .view-of .ensures) (c .before .before .before .before .before .before .before .before .before .filtered .ensures .is) (c .before .before .before .before .before .mark-flag .ensures)
+    (c .before .before .before .mark-flag2 .ensures) (c .before .before .pushed .ensures .is)
+    (push-done (c .before .loop3 .h) (w .events) (c .before .loop3 .x) (w .end) (c .loop3-test .left) few ∙ i .3)
+
+pump-refusal-requires : tie.Need-pump-refusal-requires Inv-loop3 μ-loop3 Inv-loop2 μ-loop2 Inv-loop μ-loop
+pump-refusal-requires c κs = search needs
+
 returns : tie.Need-returns Inv-loop3 μ-loop3 Inv-loop2 μ-loop2 Inv-loop μ-loop
-returns c = ?
+returns c = let a = c .before .before .before .before .args in
+    pump-refuses (a .hub) (now (a .batch)) (a .place) (now (a .out)) (a .allowance) (c .before .pump-refusal .ensures) (c .if1 .taken)
 
--- src/lib.rt:35:5
 loop-holds : tie.Need-loop-holds Inv-loop3 μ-loop3 Inv-loop2 μ-loop2 Inv-loop μ-loop
-loop-holds c = ?
+loop-holds c = let a = c .before .before .before .before .args in
+    let g = accepted (length (now (a .batch))) (length (now (a .out))) (a .place) (c .before .pump-refusal .ensures) (c .if1 .left) in
+    (record { at-small = g .place-small; batch-small = g .batch-small; out-small = g .out-small; room = omega arith; steps-small = omega (arith, c .before .before .before .before .fits .allowance); same = refl }, refl)
 
--- src/lib.rt:36:13
 loop2-holds : tie.Need-loop2-holds Inv-loop3 μ-loop3 Inv-loop2 μ-loop2 Inv-loop μ-loop
-loop2-holds c = ?
+loop2-holds c = let i = c .loop .inv .0 in
+    (record { at-small = i .at-small; batch-small = i .batch-small; out-small = i .out-small; room = i .room; steps-small = i .steps-small; same = refl }, omega arith)
 
--- src/lib.rt:40:17
 sub-stop : tie.Need-sub-stop Inv-loop3 μ-loop3 Inv-loop2 μ-loop2 Inv-loop μ-loop
-sub-stop c = ?
+sub-stop c = omega arith
 
--- src/lib.rt:41:29
 mul-stop : tie.Need-mul-stop Inv-loop3 μ-loop3 Inv-loop2 μ-loop2 Inv-loop μ-loop
-mul-stop c = ?
+mul-stop c = omega arith
 
--- src/lib.rt:41:17
 sub-stop-2 : tie.Need-sub-stop-2 Inv-loop3 μ-loop3 Inv-loop2 μ-loop2 Inv-loop μ-loop
-sub-stop-2 c = ?
+sub-stop-2 c = omega arith
 
--- src/lib.rt:38:17
 stop-requires : tie.Need-stop-requires Inv-loop3 μ-loop3 Inv-loop2 μ-loop2 Inv-loop μ-loop
-stop-requires c κs = ?
+stop-requires c κs = search needs
 
--- src/lib.rt:47:29
-stop-answer-requires :
-    tie.Need-stop-answer-requires Inv-loop3 μ-loop3 Inv-loop2 μ-loop2 Inv-loop μ-loop
-stop-answer-requires c κs = ?
+stop-answer-requires : tie.Need-stop-answer-requires Inv-loop3 μ-loop3 Inv-loop2 μ-loop2 Inv-loop μ-loop
+stop-answer-requires c κs = search needs
 
--- src/lib.rt:45:17
 same-length : tie.Need-same-length Inv-loop3 μ-loop3 Inv-loop2 μ-loop2 Inv-loop μ-loop
-same-length c = ?
+same-length c = omega arith
 
--- src/lib.rt:45:17
 returns-2 : tie.Need-returns-2 Inv-loop3 μ-loop3 Inv-loop2 μ-loop2 Inv-loop μ-loop
-returns-2 c = ?
+returns-2 c = let l = c .before .before .before .loop2 in
+    let o = c .before .before .before .before .loop in
+    let a = c .before .before .before .before .before .before .before .before .before .args in
+    run-stops (l .h) (now (a .batch)) (l .at) (o .out) (o .events) (l .steps) (l .left) (c .before .before .stop .ensures) (c .before .if2 .taken) (c .stop-answer .ensures)
+    ∙ l .inv .0 .same ∙ o .inv .0 .same
+    ∙ pump-runs (a .hub) (now (a .batch)) (a .place) (now (a .out)) (a .allowance) (c .before .before .before .before .before .before .pump-refusal .ensures) (c .before .before .before .before .before .if1 .left)
 
--- src/lib.rt:51:17
 look-requires : tie.Need-look-requires Inv-loop3 μ-loop3 Inv-loop2 μ-loop2 Inv-loop μ-loop
-look-requires c κs = ?
+look-requires c κs = search needs
 
--- src/lib.rt:53:17
 find-requires : tie.Need-find-requires Inv-loop3 μ-loop3 Inv-loop2 μ-loop2 Inv-loop μ-loop
-find-requires c κs = ?
+find-requires c κs = search needs
 
--- src/lib.rt:63:17
 refusal-requires : tie.Need-refusal-requires Inv-loop3 μ-loop3 Inv-loop2 μ-loop2 Inv-loop μ-loop
-refusal-requires c κs = ?
+refusal-requires c κs = search needs
 
--- src/lib.rt:65:17
 same-length-2 : tie.Need-same-length-2 Inv-loop3 μ-loop3 Inv-loop2 μ-loop2 Inv-loop μ-loop
-same-length-2 c = ?
+same-length-2 c = omega arith
 
--- src/lib.rt:65:17
 returns-3 : tie.Need-returns-3 Inv-loop3 μ-loop3 Inv-loop2 μ-loop2 Inv-loop μ-loop
-returns-3 c = ?
+returns-3 c = let l = c .before .before .before .before .before .before .before .before .before .before .before .before .before .before .loop2 in
+    let o = c .before .before .before .before .before .before .before .before .before .before .before .before .before .before .before .loop in
+    let a = c .before .before .before .before .before .before .before .before .before .before .before .before .before .before .before .before .before .before .before .before .args in
+    run-refuses (l .h) (now (a .batch)) (l .at) (o .out) (o .events) (l .steps) (l .left) (c .before .before .before .before .before .before .before .before .before .before .before .before .before .stop .ensures) (c .before .before .before .before .before .before .before .before .before .before .before .before .if2 .left)
+    (refusal-is (l .h) (now (a .batch)) (l .at) (c .before .before .before .before .before .before .before .before .before .before .before .look .ensures) (c .before .before .find .ensures .is) (c .before .refusal .ensures)) (c .if3 .taken)
+    ∙ l .inv .0 .same ∙ o .inv .0 .same
+    ∙ pump-runs (a .hub) (now (a .batch)) (a .place) (now (a .out)) (a .allowance) (c .before .before .before .before .before .before .before .before .before .before .before .before .before .before .before .before .before .pump-refusal .ensures) (c .before .before .before .before .before .before .before .before .before .before .before .before .before .before .before .before .if1 .left)
 
--- src/lib.rt:71:27
 mul-element : tie.Need-mul-element Inv-loop3 μ-loop3 Inv-loop2 μ-loop2 Inv-loop μ-loop
-mul-element c = ?
+mul-element c = omega arith
 
--- src/lib.rt:71:27
-element-copy-out-element :
-    tie.Need-element-copy-out-element Inv-loop3 μ-loop3 Inv-loop2 μ-loop2 Inv-loop μ-loop
-element-copy-out-element c = ?
+element-copy-out-element : tie.Need-element-copy-out-element Inv-loop3 μ-loop3 Inv-loop2 μ-loop2 Inv-loop μ-loop
+element-copy-out-element c = omega arith
 
--- src/lib.rt:72:21
 mul-b : tie.Need-mul-b Inv-loop3 μ-loop3 Inv-loop2 μ-loop2 Inv-loop μ-loop
-mul-b c = ?
+mul-b c = omega arith
 
--- src/lib.rt:72:21
-element-copy-out-b :
-    tie.Need-element-copy-out-b Inv-loop3 μ-loop3 Inv-loop2 μ-loop2 Inv-loop μ-loop
-element-copy-out-b c = ?
+element-copy-out-b : tie.Need-element-copy-out-b Inv-loop3 μ-loop3 Inv-loop2 μ-loop2 Inv-loop μ-loop
+element-copy-out-b c = omega arith
 
--- src/lib.rt:73:17
 front-requires : tie.Need-front-requires Inv-loop3 μ-loop3 Inv-loop2 μ-loop2 Inv-loop μ-loop
-front-requires c κs = ?
+front-requires c κs = search needs
 
--- src/lib.rt:74:24
 mul-slot : tie.Need-mul-slot Inv-loop3 μ-loop3 Inv-loop2 μ-loop2 Inv-loop μ-loop
-mul-slot c = ?
+mul-slot c = omega arith
 
--- src/lib.rt:74:24
-element-copy-out-slot :
-    tie.Need-element-copy-out-slot Inv-loop3 μ-loop3 Inv-loop2 μ-loop2 Inv-loop μ-loop
-element-copy-out-slot c = ?
+element-copy-out-slot : tie.Need-element-copy-out-slot Inv-loop3 μ-loop3 Inv-loop2 μ-loop2 Inv-loop μ-loop
+element-copy-out-slot c = omega arith
 
--- src/lib.rt:76:17
 take-requires : tie.Need-take-requires Inv-loop3 μ-loop3 Inv-loop2 μ-loop2 Inv-loop μ-loop
-take-requires c κs = ?
+take-requires c κs = let l = c .before .before .before .before .before .before .before .before .before .before .before .before .before .before .before .before .before .before .loop2 in
+    taken-within (l .h .waiting) (now (c .before .before .before .before .before .before .before .before .before .before .before .before .before .before .before .before .before .before .before .before .before .before .before .before .args .batch)) (l .at) (l .h .pads) (c .before .before .before .before .before .before .find .result .kind) (c .before .before .before .before .before .before .before .before .before .before .before .before .before .before .before .look .ensures) (c .before .before .before .before .before .refusal .ensures) (c .before .before .before .before .if3 .left)
 
--- src/lib.rt:88:17
 wide-requires : tie.Need-wide-requires Inv-loop3 μ-loop3 Inv-loop2 μ-loop2 Inv-loop μ-loop
-wide-requires c κs = ?
+wide-requires c κs = search needs
 
--- src/lib.rt:89:17
 join-run-requires : tie.Need-join-run-requires Inv-loop3 μ-loop3 Inv-loop2 μ-loop2 Inv-loop μ-loop
-join-run-requires c κs = ?
+join-run-requires c κs = search needs
 
--- src/lib.rt:90:17
-join-run-requires-2 :
-    tie.Need-join-run-requires-2 Inv-loop3 μ-loop3 Inv-loop2 μ-loop2 Inv-loop μ-loop
-join-run-requires-2 c κs = ?
+join-run-requires-2 : tie.Need-join-run-requires-2 Inv-loop3 μ-loop3 Inv-loop2 μ-loop2 Inv-loop μ-loop
+join-run-requires-2 c κs = search needs
 
--- src/lib.rt:91:13
 connect-requires : tie.Need-connect-requires Inv-loop3 μ-loop3 Inv-loop2 μ-loop2 Inv-loop μ-loop
-connect-requires c κs = ?
+connect-requires c κs = search needs
 
--- src/lib.rt:92:13
 forget-requires : tie.Need-forget-requires Inv-loop3 μ-loop3 Inv-loop2 μ-loop2 Inv-loop μ-loop
-forget-requires c κs = ?
+forget-requires c κs = search needs
 
--- src/lib.rt:93:40
 mul-clear : tie.Need-mul-clear Inv-loop3 μ-loop3 Inv-loop2 μ-loop2 Inv-loop μ-loop
-mul-clear c = ?
+mul-clear c = omega arith
 
--- src/lib.rt:93:13
 clear-requires : tie.Need-clear-requires Inv-loop3 μ-loop3 Inv-loop2 μ-loop2 Inv-loop μ-loop
-clear-requires c κs = ?
+clear-requires c κs = search needs
 
--- src/lib.rt:94:38
 mul-clear-2 : tie.Need-mul-clear-2 Inv-loop3 μ-loop3 Inv-loop2 μ-loop2 Inv-loop μ-loop
-mul-clear-2 c = ?
+mul-clear-2 c = omega arith
 
--- src/lib.rt:94:13
 clear-requires-2 : tie.Need-clear-requires-2 Inv-loop3 μ-loop3 Inv-loop2 μ-loop2 Inv-loop μ-loop
-clear-requires-2 c κs = ?
+clear-requires-2 c κs = search needs
 
--- src/lib.rt:95:44
 mul-clear-flags : tie.Need-mul-clear-flags Inv-loop3 μ-loop3 Inv-loop2 μ-loop2 Inv-loop μ-loop
-mul-clear-flags c = ?
+mul-clear-flags c = omega arith
 
--- src/lib.rt:95:13
-clear-flags-requires :
-    tie.Need-clear-flags-requires Inv-loop3 μ-loop3 Inv-loop2 μ-loop2 Inv-loop μ-loop
-clear-flags-requires c κs = ?
+clear-flags-requires : tie.Need-clear-flags-requires Inv-loop3 μ-loop3 Inv-loop2 μ-loop2 Inv-loop μ-loop
+clear-flags-requires c κs = search needs
 
--- src/lib.rt:96:22
-head-after-requires :
-    tie.Need-head-after-requires Inv-loop3 μ-loop3 Inv-loop2 μ-loop2 Inv-loop μ-loop
-head-after-requires c κs = ?
+head-after-requires : tie.Need-head-after-requires Inv-loop3 μ-loop3 Inv-loop2 μ-loop2 Inv-loop μ-loop
+head-after-requires c κs = search needs
 
--- src/lib.rt:97:25
 fewer-requires : tie.Need-fewer-requires Inv-loop3 μ-loop3 Inv-loop2 μ-loop2 Inv-loop μ-loop
-fewer-requires c κs = ?
+fewer-requires c κs = search needs
 
--- src/lib.rt:98:13
-place-after-requires :
-    tie.Need-place-after-requires Inv-loop3 μ-loop3 Inv-loop2 μ-loop2 Inv-loop μ-loop
-place-after-requires c κs = ?
+place-after-requires : tie.Need-place-after-requires Inv-loop3 μ-loop3 Inv-loop2 μ-loop2 Inv-loop μ-loop
+place-after-requires c κs = let i = c .before .before .before .before .before .before .before .before .before .before .before .before .before .before .before .before .before .before .before .before .before .before .before .before .before .before .before .before .before .before .before .before .before .before .loop2 .inv .0 in omega arith
 
--- src/lib.rt:99:20
 sub-left : tie.Need-sub-left Inv-loop3 μ-loop3 Inv-loop2 μ-loop2 Inv-loop μ-loop
-sub-left c = ?
+sub-left c = omega (arith, room (c .before .before .before .before .before .before .before .before .before .before .before .before .before .before .before .before .before .before .before .before .before .before .before .before .before .before .before .before .before .before .before .before .before) .2)
 
--- src/lib.rt:100:21
 add-steps : tie.Need-add-steps Inv-loop3 μ-loop3 Inv-loop2 μ-loop2 Inv-loop μ-loop
-add-steps c = ?
+add-steps c = let i = c .before .before .before .before .before .before .before .before .before .before .before .before .before .before .before .before .before .before .before .before .before .before .before .before .before .before .before .before .before .before .before .before .before .before .before .loop2 .inv .0 in omega arith
 
--- src/lib.rt:115:17
 name-of-requires : tie.Need-name-of-requires Inv-loop3 μ-loop3 Inv-loop2 μ-loop2 Inv-loop μ-loop
-name-of-requires c κs = ?
+name-of-requires c κs = search needs
 
--- src/lib.rt:116:17
 code-of-requires : tie.Need-code-of-requires Inv-loop3 μ-loop3 Inv-loop2 μ-loop2 Inv-loop μ-loop
-code-of-requires c κs = ?
+code-of-requires c κs = search needs
 
--- src/lib.rt:103:17
 sighted-requires : tie.Need-sighted-requires Inv-loop3 μ-loop3 Inv-loop2 μ-loop2 Inv-loop μ-loop
-sighted-requires c κs = ?
+sighted-requires c κs = search needs
 
--- src/lib.rt:128:17
 mul-view-of : tie.Need-mul-view-of Inv-loop3 μ-loop3 Inv-loop2 μ-loop2 Inv-loop μ-loop
-mul-view-of c = ?
+mul-view-of c = omega arith
 
--- src/lib.rt:128:17
-element-copy-out-view-of :
-    tie.Need-element-copy-out-view-of Inv-loop3 μ-loop3 Inv-loop2 μ-loop2 Inv-loop μ-loop
-element-copy-out-view-of c = ?
+element-copy-out-view-of : tie.Need-element-copy-out-view-of Inv-loop3 μ-loop3 Inv-loop2 μ-loop2 Inv-loop μ-loop
+element-copy-out-view-of c = omega arith
 
--- src/lib.rt:129:17
 mul-view-of-2 : tie.Need-mul-view-of-2 Inv-loop3 μ-loop3 Inv-loop2 μ-loop2 Inv-loop μ-loop
-mul-view-of-2 c = ?
+mul-view-of-2 c = omega arith
 
--- src/lib.rt:129:17
-element-copy-out-view-of-2 :
-    tie.Need-element-copy-out-view-of-2 Inv-loop3 μ-loop3 Inv-loop2 μ-loop2 Inv-loop μ-loop
-element-copy-out-view-of-2 c = ?
+element-copy-out-view-of-2 : tie.Need-element-copy-out-view-of-2 Inv-loop3 μ-loop3 Inv-loop2 μ-loop2 Inv-loop μ-loop
+element-copy-out-view-of-2 c = omega arith
 
--- src/lib.rt:130:17
 mul-view-of-3 : tie.Need-mul-view-of-3 Inv-loop3 μ-loop3 Inv-loop2 μ-loop2 Inv-loop μ-loop
-mul-view-of-3 c = ?
+mul-view-of-3 c = omega arith
 
--- src/lib.rt:130:17
-element-copy-out-view-of-3 :
-    tie.Need-element-copy-out-view-of-3 Inv-loop3 μ-loop3 Inv-loop2 μ-loop2 Inv-loop μ-loop
-element-copy-out-view-of-3 c = ?
+element-copy-out-view-of-3 : tie.Need-element-copy-out-view-of-3 Inv-loop3 μ-loop3 Inv-loop2 μ-loop2 Inv-loop μ-loop
+element-copy-out-view-of-3 c = omega arith
 
--- src/lib.rt:131:17
 mul-view-of-4 : tie.Need-mul-view-of-4 Inv-loop3 μ-loop3 Inv-loop2 μ-loop2 Inv-loop μ-loop
-mul-view-of-4 c = ?
+mul-view-of-4 c = omega arith
 
--- src/lib.rt:131:17
-element-copy-out-view-of-4 :
-    tie.Need-element-copy-out-view-of-4 Inv-loop3 μ-loop3 Inv-loop2 μ-loop2 Inv-loop μ-loop
-element-copy-out-view-of-4 c = ?
+element-copy-out-view-of-4 : tie.Need-element-copy-out-view-of-4 Inv-loop3 μ-loop3 Inv-loop2 μ-loop2 Inv-loop μ-loop
+element-copy-out-view-of-4 c = omega arith
 
--- src/lib.rt:132:17
 mul-view-of-5 : tie.Need-mul-view-of-5 Inv-loop3 μ-loop3 Inv-loop2 μ-loop2 Inv-loop μ-loop
-mul-view-of-5 c = ?
+mul-view-of-5 c = omega arith
 
--- src/lib.rt:132:17
-element-copy-out-view-of-5 :
-    tie.Need-element-copy-out-view-of-5 Inv-loop3 μ-loop3 Inv-loop2 μ-loop2 Inv-loop μ-loop
-element-copy-out-view-of-5 c = ?
+element-copy-out-view-of-5 : tie.Need-element-copy-out-view-of-5 Inv-loop3 μ-loop3 Inv-loop2 μ-loop2 Inv-loop μ-loop
+element-copy-out-view-of-5 c = omega arith
 
--- src/lib.rt:133:17
 mul-view-of-6 : tie.Need-mul-view-of-6 Inv-loop3 μ-loop3 Inv-loop2 μ-loop2 Inv-loop μ-loop
-mul-view-of-6 c = ?
+mul-view-of-6 c = omega arith
 
--- src/lib.rt:133:17
-element-copy-out-view-of-6 :
-    tie.Need-element-copy-out-view-of-6 Inv-loop3 μ-loop3 Inv-loop2 μ-loop2 Inv-loop μ-loop
-element-copy-out-view-of-6 c = ?
+element-copy-out-view-of-6 : tie.Need-element-copy-out-view-of-6 Inv-loop3 μ-loop3 Inv-loop2 μ-loop2 Inv-loop μ-loop
+element-copy-out-view-of-6 c = omega arith
 
--- src/lib.rt:134:17
 mul-view-of-7 : tie.Need-mul-view-of-7 Inv-loop3 μ-loop3 Inv-loop2 μ-loop2 Inv-loop μ-loop
-mul-view-of-7 c = ?
+mul-view-of-7 c = omega arith
 
--- src/lib.rt:134:17
-element-copy-out-view-of-7 :
-    tie.Need-element-copy-out-view-of-7 Inv-loop3 μ-loop3 Inv-loop2 μ-loop2 Inv-loop μ-loop
-element-copy-out-view-of-7 c = ?
+element-copy-out-view-of-7 : tie.Need-element-copy-out-view-of-7 Inv-loop3 μ-loop3 Inv-loop2 μ-loop2 Inv-loop μ-loop
+element-copy-out-view-of-7 c = omega arith
 
--- src/lib.rt:126:17
 view-of-requires : tie.Need-view-of-requires Inv-loop3 μ-loop3 Inv-loop2 μ-loop2 Inv-loop μ-loop
-view-of-requires c κs = ?
+view-of-requires c κs = search needs
 
--- src/lib.rt:137:17
 filtered-requires : tie.Need-filtered-requires Inv-loop3 μ-loop3 Inv-loop2 μ-loop2 Inv-loop μ-loop
-filtered-requires c κs = ?
+filtered-requires c κs = search needs
 
--- src/lib.rt:140:13
-mark-flag-requires :
-    tie.Need-mark-flag-requires Inv-loop3 μ-loop3 Inv-loop2 μ-loop2 Inv-loop μ-loop
-mark-flag-requires c κs = ?
+mark-flag-requires : tie.Need-mark-flag-requires Inv-loop3 μ-loop3 Inv-loop2 μ-loop2 Inv-loop μ-loop
+mark-flag-requires c κs = search needs
 
--- src/lib.rt:141:13
-mark-flag-requires-2 :
-    tie.Need-mark-flag-requires-2 Inv-loop3 μ-loop3 Inv-loop2 μ-loop2 Inv-loop μ-loop
-mark-flag-requires-2 c κs = ?
+mark-flag-requires-2 : tie.Need-mark-flag-requires-2 Inv-loop3 μ-loop3 Inv-loop2 μ-loop2 Inv-loop μ-loop
+mark-flag-requires-2 c κs = search needs
 
--- src/lib.rt:142:21
 pushed-requires : tie.Need-pushed-requires Inv-loop3 μ-loop3 Inv-loop2 μ-loop2 Inv-loop μ-loop
-pushed-requires c κs = ?
+pushed-requires c κs = search needs
 
--- src/lib.rt:145:13
 loop3-holds : tie.Need-loop3-holds Inv-loop3 μ-loop3 Inv-loop2 μ-loop2 Inv-loop μ-loop
-loop3-holds c = ?
+loop3-holds c = (c .pushed .ensures .ordered, c .pushed .ensures .small, search (needs, unmapped), refl)
 
--- src/lib.rt:146:25
 mul-u : tie.Need-mul-u Inv-loop3 μ-loop3 Inv-loop2 μ-loop2 Inv-loop μ-loop
-mul-u c = ?
+mul-u c = omega arith
 
--- src/lib.rt:146:25
-element-copy-out-u :
-    tie.Need-element-copy-out-u Inv-loop3 μ-loop3 Inv-loop2 μ-loop2 Inv-loop μ-loop
-element-copy-out-u c = ?
+element-copy-out-u : tie.Need-element-copy-out-u Inv-loop3 μ-loop3 Inv-loop2 μ-loop2 Inv-loop μ-loop
+element-copy-out-u c = omega arith
 
--- src/lib.rt:147:21
 free-requires : tie.Need-free-requires Inv-loop3 μ-loop3 Inv-loop2 μ-loop2 Inv-loop μ-loop
-free-requires c κs = ?
+free-requires c κs = search needs
 
--- src/lib.rt:148:33
 slot-of-requires : tie.Need-slot-of-requires Inv-loop3 μ-loop3 Inv-loop2 μ-loop2 Inv-loop μ-loop
-slot-of-requires c κs = ?
+slot-of-requires c κs = search needs
 
--- src/lib.rt:148:17
 mul-t131 : tie.Need-mul-t131 Inv-loop3 μ-loop3 Inv-loop2 μ-loop2 Inv-loop μ-loop
-mul-t131 c = ?
+mul-t131 c = omega arith
 
--- src/lib.rt:148:17
-element-set-from-h :
-    tie.Need-element-set-from-h Inv-loop3 μ-loop3 Inv-loop2 μ-loop2 Inv-loop μ-loop
-element-set-from-h c = ?
+element-set-from-h : tie.Need-element-set-from-h Inv-loop3 μ-loop3 Inv-loop2 μ-loop2 Inv-loop μ-loop
+element-set-from-h c = omega arith
 
--- src/lib.rt:149:29
 longer-requires : tie.Need-longer-requires Inv-loop3 μ-loop3 Inv-loop2 μ-loop2 Inv-loop μ-loop
-longer-requires c κs = ?
+longer-requires c κs = search needs
 
--- src/lib.rt:150:21
 add-x : tie.Need-add-x Inv-loop3 μ-loop3 Inv-loop2 μ-loop2 Inv-loop μ-loop
-add-x c = ?
+add-x c = omega arith
 
--- src/lib.rt:145:13
 loop3-less : tie.Need-loop3-less Inv-loop3 μ-loop3 Inv-loop2 μ-loop2 Inv-loop μ-loop
-loop3-less c = ?
+loop3-less c = omega arith
 
--- src/lib.rt:145:13
 loop3-again : tie.Need-loop3-again Inv-loop3 μ-loop3 Inv-loop2 μ-loop2 Inv-loop μ-loop
-loop3-again c = ?
+loop3-again c = let i = c .before .before .before .before .before .loop3 .inv in
+    let w = c .before .before .before .before .before .before .pushed .result in
+    let x = c .before .before .before .before .before .loop3 .x in
+    let more : x < w .end = omega (arith, c .before .before .before .before .loop3-test) in
+    let few : w .end ≤ length (w .events) = omega (arith, i .1, i .2) in
+    (omega arith, i .1, i .2, sym (push-one (c .before .before .before .before .before .loop3 .h) (w .events) x (w .end) more few refl (c .before .before .free .ensures .is) (c .before .slot-of .ensures) (c .longer .ensures)) ∙ i .3)
 
--- src/lib.rt:153:16
 kept-requires : tie.Need-kept-requires Inv-loop3 μ-loop3 Inv-loop2 μ-loop2 Inv-loop μ-loop
-kept-requires c κs = ?
+kept-requires c κs = search needs
 
--- src/lib.rt:36:13
 loop2-less : tie.Need-loop2-less Inv-loop3 μ-loop3 Inv-loop2 μ-loop2 Inv-loop μ-loop
-loop2-less c = ?
+loop2-less c = omega (arith, room (c .before .before .before .before .before .before .before .before .before .before .before .before .before .before .before .before .before .before .before .before .before .before .before .before .before .before .before .before .before .before .before .before .before .before .before .before .before .before .before .before .before .before .before .before .before .before .before .before .before .before .before .before .before .before .before .before .before .before .before .before .before .before .before .before .before .before .before .before .before .before .before .before .before) .2)
 
--- src/lib.rt:36:13
 loop2-again : tie.Need-loop2-again Inv-loop3 μ-loop3 Inv-loop2 μ-loop2 Inv-loop μ-loop
-loop2-again c = ?
+loop2-again c = let l = c .before .before .before .before .before .before .before .before .before .before .before .before .before .before .before .before .before .before .before .before .before .before .before .before .before .before .before .before .before .before .before .before .before .before .before .before .before .before .before .before .before .before .before .before .before .before .before .before .before .before .before .before .before .before .before .before .before .before .before .before .before .before .before .before .before .before .before .before .before .before .before .before .before .before .before .loop2 in
+    let o = c .before .before .before .before .before .before .before .before .before .before .before .before .before .before .before .before .before .before .before .before .before .before .before .before .before .before .before .before .before .before .before .before .before .before .before .before .before .before .before .before .before .before .before .before .before .before .before .before .before .before .before .before .before .before .before .before .before .before .before .before .before .before .before .before .before .before .before .before .before .before .before .before .before .before .before .before .loop in
+    let b = now (c .before .before .before .before .before .before .before .before .before .before .before .before .before .before .before .before .before .before .before .before .before .before .before .before .before .before .before .before .before .before .before .before .before .before .before .before .before .before .before .before .before .before .before .before .before .before .before .before .before .before .before .before .before .before .before .before .before .before .before .before .before .before .before .before .before .before .before .before .before .before .before .before .before .before .before .before .before .before .before .before .before .args .batch) in
+    let i = l .inv .0 in
+    let left = room (c .before .before .before .before .before .before .before .before .before .before .before .before .before .before .before .before .before .before .before .before .before .before .before .before .before .before .before .before .before .before .before .before .before .before .before .before .before .before .before .before .before .before .before .before .before .before .before .before .before .before .before .before .before .before .before .before .before .before .before .before .before .before .before .before .before .before .before .before .before .before .before .before .before) .2 in (
+      record {
+        at-small = place-small (l .h .waiting) b (l .at) (l .h .pads) (c .before .before .before .before .before .before .before .before .before .before .before .before .before .before .before .before .before .before .before .before .before .before .before .before .before .before .before .before .before .before .before .before .before .before .before .before .before .before .before .before .before .before .before .before .before .before .before .before .before .before .before .before .before .before .before .before .before .before .before .before .before .before .before .find .result .kind) (c .before .before .before .before .before .before .before .before .before .before .before .before .before .before .before .before .before .before .before .before .before .before .before .before .before .before .before .before .before .before .before .before .before .before .before .before .before .before .before .before .before .before .before .before .before .before .before .before .before .before .before .before .before .before .before .before .before .before .before .before .before .before .before .before .before .before .before .before .before .before .before .before .look .ensures) (c .before .before .before .before .before .before .before .before .before .before .before .before .before .before .before .before .before .before .before .before .before .before .before .before .before .before .before .before .before .before .before .before .before .before .before .before .before .before .before .before .before .before .before .before .before .before .before .before .before .before .before .before .before .before .before .before .before .before .before .before .before .before .refusal .ensures) (c .before .before .before .before .before .before .before .before .before .before .before .before .before .before .before .before .before .before .before .before .before .before .before .before .before .before .before .before .before .before .before .before .before .before .before .before .before .before .before .before .before .before .before .before .before .before .before .before .before .before .before .before .before .before .before .before .before .before .before .before .before .if3 .left) (c .before .before .before .before .before .before .before .before .before .before .before .before .before .before .before .before .before .before .before .before .before .before .before .before .before .before .before .before .before .before .before .before .before .before .before .before .before .before .before .before .place-after .ensures) (i .at-small);
+        batch-small = i .batch-small;
+        out-small = i .out-small;
+        room = i .room;
+        steps-small = omega (arith, i .steps-small);
+        same =
+            sym
+            (run-goes (l .h) b (l .at) (o .out) (o .events) (l .steps) (l .left) (c .before .before .before .before .before .before .before .before .before .before .before .before .before .before .before .before .before .before .before .before .before .before .before .before .before .before .before .before .before .before .before .before .before .before .before .before .before .before .before .before .before .before .before .before .before .before .before .before .before .before .before .before .before .before .before .before .before .before .before .before .before .before .before .before .before .before .before .before .before .before .before .before .before .before .stop .ensures) (c .before .before .before .before .before .before .before .before .before .before .before .before .before .before .before .before .before .before .before .before .before .before .before .before .before .before .before .before .before .before .before .before .before .before .before .before .before .before .before .before .before .before .before .before .before .before .before .before .before .before .before .before .before .before .before .before .before .before .before .before .before .before .before .before .before .before .before .before .before .before .before .before .before .if2 .left)
+            (refusal-is (l .h) b (l .at) (c .before .before .before .before .before .before .before .before .before .before .before .before .before .before .before .before .before .before .before .before .before .before .before .before .before .before .before .before .before .before .before .before .before .before .before .before .before .before .before .before .before .before .before .before .before .before .before .before .before .before .before .before .before .before .before .before .before .before .before .before .before .before .before .before .before .before .before .before .before .before .before .before .look .ensures) (c .before .before .before .before .before .before .before .before .before .before .before .before .before .before .before .before .before .before .before .before .before .before .before .before .before .before .before .before .before .before .before .before .before .before .before .before .before .before .before .before .before .before .before .before .before .before .before .before .before .before .before .before .before .before .before .before .before .before .before .before .before .before .before .find .ensures .is) (c .before .before .before .before .before .before .before .before .before .before .before .before .before .before .before .before .before .before .before .before .before .before .before .before .before .before .before .before .before .before .before .before .before .before .before .before .before .before .before .before .before .before .before .before .before .before .before .before .before .before .before .before .before .before .before .before .before .before .before .before .before .before .refusal .ensures)) (c .before .before .before .before .before .before .before .before .before .before .before .before .before .before .before .before .before .before .before .before .before .before .before .before .before .before .before .before .before .before .before .before .before .before .before .before .before .before .before .before .before .before .before .before .before .before .before .before .before .before .before .before .before .before .before .before .before .before .before .before .before .if3 .left)
+            (step-skips (l .h) b (l .at) (o .out) (o .events) (l .steps) (c .before .before .before .before .before .before .before .before .before .before .before .before .before .before .before .before .before .before .before .before .before .before .before .before .before .before .before .before .before .before .before .before .before .before .before .before .before .before .before .before .before .before .before .before .before .before .before .before .before .before .before .before .before .before .before .before .before .before .before .before .before .before .before .before .before .before .before .before .before .before .before .before .look .ensures) (turns (c .before .before .before)) (c .before .before .before .before .before .before .before .before .before .before .before .before .before .before .before .before .before .before .before .before .before .before .before .before .before .before .before .before .before .before .before .before .before .before .before .before .before .before .before .before .place-after .ensures)
+            (sym (c .before .kept .ensures) ∙ c .if4 .left)))
+            ∙ i .same;
+      },
+      omega (arith, l .inv .1),
+    )
 
--- src/lib.rt:158:49
-code-of-requires-2 :
-    tie.Need-code-of-requires-2 Inv-loop3 μ-loop3 Inv-loop2 μ-loop2 Inv-loop μ-loop
-code-of-requires-2 c κs = ?
+code-of-requires-2 : tie.Need-code-of-requires-2 Inv-loop3 μ-loop3 Inv-loop2 μ-loop2 Inv-loop μ-loop
+code-of-requires-2 c κs = search needs
 
--- src/lib.rt:158:13
 place-of-requires : tie.Need-place-of-requires Inv-loop3 μ-loop3 Inv-loop2 μ-loop2 Inv-loop μ-loop
-place-of-requires c κs = ?
+place-of-requires c κs = search needs
 
--- src/lib.rt:160:13
 bool-at-requires : tie.Need-bool-at-requires Inv-loop3 μ-loop3 Inv-loop2 μ-loop2 Inv-loop μ-loop
-bool-at-requires c κs = ?
+bool-at-requires c κs = search needs
 
--- src/lib.rt:161:13
-bool-at-requires-2 :
-    tie.Need-bool-at-requires-2 Inv-loop3 μ-loop3 Inv-loop2 μ-loop2 Inv-loop μ-loop
-bool-at-requires-2 c κs = ?
+bool-at-requires-2 : tie.Need-bool-at-requires-2 Inv-loop3 μ-loop3 Inv-loop2 μ-loop2 Inv-loop μ-loop
+bool-at-requires-2 c κs = search needs
 
--- src/lib.rt:162:62
-mul-button-written :
-    tie.Need-mul-button-written Inv-loop3 μ-loop3 Inv-loop2 μ-loop2 Inv-loop μ-loop
-mul-button-written c = ?
+mul-button-written : tie.Need-mul-button-written Inv-loop3 μ-loop3 Inv-loop2 μ-loop2 Inv-loop μ-loop
+mul-button-written c = omega arith
 
--- src/lib.rt:162:62
-element-copy-out-button-written :
-    tie.Need-element-copy-out-button-written Inv-loop3 μ-loop3 Inv-loop2 μ-loop2 Inv-loop μ-loop
-element-copy-out-button-written c = ?
+element-copy-out-button-written : tie.Need-element-copy-out-button-written Inv-loop3 μ-loop3 Inv-loop2 μ-loop2 Inv-loop μ-loop
+element-copy-out-button-written c = omega arith
 
--- src/lib.rt:162:24
-button-written-requires :
-    tie.Need-button-written-requires Inv-loop3 μ-loop3 Inv-loop2 μ-loop2 Inv-loop μ-loop
-button-written-requires c κs = ?
+button-written-requires : tie.Need-button-written-requires Inv-loop3 μ-loop3 Inv-loop2 μ-loop2 Inv-loop μ-loop
+button-written-requires c κs = search needs
 
--- src/lib.rt:162:9
 mul-t151 : tie.Need-mul-t151 Inv-loop3 μ-loop3 Inv-loop2 μ-loop2 Inv-loop μ-loop
-mul-t151 c = ?
+mul-t151 c = omega arith
 
--- src/lib.rt:162:9
-element-set-from-h-2 :
-    tie.Need-element-set-from-h-2 Inv-loop3 μ-loop3 Inv-loop2 μ-loop2 Inv-loop μ-loop
-element-set-from-h-2 c = ?
+element-set-from-h-2 : tie.Need-element-set-from-h-2 Inv-loop3 μ-loop3 Inv-loop2 μ-loop2 Inv-loop μ-loop
+element-set-from-h-2 c = omega arith
 
--- src/lib.rt:163:48
 mul-axis-written : tie.Need-mul-axis-written Inv-loop3 μ-loop3 Inv-loop2 μ-loop2 Inv-loop μ-loop
-mul-axis-written c = ?
+mul-axis-written c = omega arith
 
--- src/lib.rt:163:48
-element-copy-out-axis-written :
-    tie.Need-element-copy-out-axis-written Inv-loop3 μ-loop3 Inv-loop2 μ-loop2 Inv-loop μ-loop
-element-copy-out-axis-written c = ?
+element-copy-out-axis-written : tie.Need-element-copy-out-axis-written Inv-loop3 μ-loop3 Inv-loop2 μ-loop2 Inv-loop μ-loop
+element-copy-out-axis-written c = omega arith
 
--- src/lib.rt:163:21
-axis-written-requires :
-    tie.Need-axis-written-requires Inv-loop3 μ-loop3 Inv-loop2 μ-loop2 Inv-loop μ-loop
-axis-written-requires c κs = ?
+axis-written-requires : tie.Need-axis-written-requires Inv-loop3 μ-loop3 Inv-loop2 μ-loop2 Inv-loop μ-loop
+axis-written-requires c κs = search needs
 
--- src/lib.rt:163:9
 mul-t151-2 : tie.Need-mul-t151-2 Inv-loop3 μ-loop3 Inv-loop2 μ-loop2 Inv-loop μ-loop
-mul-t151-2 c = ?
+mul-t151-2 c = omega arith
 
--- src/lib.rt:163:9
-element-set-from-h-3 :
-    tie.Need-element-set-from-h-3 Inv-loop3 μ-loop3 Inv-loop2 μ-loop2 Inv-loop μ-loop
-element-set-from-h-3 c = ?
+element-set-from-h-3 : tie.Need-element-set-from-h-3 Inv-loop3 μ-loop3 Inv-loop2 μ-loop2 Inv-loop μ-loop
+element-set-from-h-3 c = omega arith
 
--- src/lib.rt:164:54
-writes-button-requires :
-    tie.Need-writes-button-requires Inv-loop3 μ-loop3 Inv-loop2 μ-loop2 Inv-loop μ-loop
-writes-button-requires c κs = ?
+writes-button-requires : tie.Need-writes-button-requires Inv-loop3 μ-loop3 Inv-loop2 μ-loop2 Inv-loop μ-loop
+writes-button-requires c κs = search needs
 
--- src/lib.rt:164:13
-known-after-requires :
-    tie.Need-known-after-requires Inv-loop3 μ-loop3 Inv-loop2 μ-loop2 Inv-loop μ-loop
-known-after-requires c κs = ?
+known-after-requires : tie.Need-known-after-requires Inv-loop3 μ-loop3 Inv-loop2 μ-loop2 Inv-loop μ-loop
+known-after-requires c κs = search needs
 
--- src/lib.rt:165:51
-writes-axis-requires :
-    tie.Need-writes-axis-requires Inv-loop3 μ-loop3 Inv-loop2 μ-loop2 Inv-loop μ-loop
-writes-axis-requires c κs = ?
+writes-axis-requires : tie.Need-writes-axis-requires Inv-loop3 μ-loop3 Inv-loop2 μ-loop2 Inv-loop μ-loop
+writes-axis-requires c κs = search needs
 
--- src/lib.rt:165:13
-known-after-requires-2 :
-    tie.Need-known-after-requires-2 Inv-loop3 μ-loop3 Inv-loop2 μ-loop2 Inv-loop μ-loop
-known-after-requires-2 c κs = ?
+known-after-requires-2 : tie.Need-known-after-requires-2 Inv-loop3 μ-loop3 Inv-loop2 μ-loop2 Inv-loop μ-loop
+known-after-requires-2 c κs = search needs
 
--- src/lib.rt:166:9
 mark-requires : tie.Need-mark-requires Inv-loop3 μ-loop3 Inv-loop2 μ-loop2 Inv-loop μ-loop
-mark-requires c κs = ?
+mark-requires c κs = search needs
 
--- src/lib.rt:167:9
 mark-requires-2 : tie.Need-mark-requires-2 Inv-loop3 μ-loop3 Inv-loop2 μ-loop2 Inv-loop μ-loop
-mark-requires-2 c κs = ?
+mark-requires-2 c κs = search needs
 
--- src/lib.rt:168:36
 mul-write-event : tie.Need-mul-write-event Inv-loop3 μ-loop3 Inv-loop2 μ-loop2 Inv-loop μ-loop
-mul-write-event c = ?
+mul-write-event c = omega (arith, room (c .before .before .before .before .before .before .before .before .before .before .before .before .before .before .before .before .before .before .before .before .before .before .before .before .before .before .before .before .before .before .before .before .before .before .before .before .before .before .before .before .before .before .before .before .before .before .before .before .before .before .before .before .before .before .before .before .before .before .before .before .before .before .before .before .before .before .before .before .before .before .before .before .before .before .before .before .before .before .before .before .before .before .before .before .before .before .before .before .before .before .before .before .before .before .before))
 
--- src/lib.rt:168:27
 sub-write-event : tie.Need-sub-write-event Inv-loop3 μ-loop3 Inv-loop2 μ-loop2 Inv-loop μ-loop
-sub-write-event c = ?
+sub-write-event c = omega (arith, room (c .before .before .before .before .before .before .before .before .before .before .before .before .before .before .before .before .before .before .before .before .before .before .before .before .before .before .before .before .before .before .before .before .before .before .before .before .before .before .before .before .before .before .before .before .before .before .before .before .before .before .before .before .before .before .before .before .before .before .before .before .before .before .before .before .before .before .before .before .before .before .before .before .before .before .before .before .before .before .before .before .before .before .before .before .before .before .before .before .before .before .before .before .before .before .before))
 
--- src/lib.rt:168:27
-part-write-event-start :
-    tie.Need-part-write-event-start Inv-loop3 μ-loop3 Inv-loop2 μ-loop2 Inv-loop μ-loop
-part-write-event-start c = ?
+part-write-event-start : tie.Need-part-write-event-start Inv-loop3 μ-loop3 Inv-loop2 μ-loop2 Inv-loop μ-loop
+part-write-event-start c = omega (arith, room (c .before .before .before .before .before .before .before .before .before .before .before .before .before .before .before .before .before .before .before .before .before .before .before .before .before .before .before .before .before .before .before .before .before .before .before .before .before .before .before .before .before .before .before .before .before .before .before .before .before .before .before .before .before .before .before .before .before .before .before .before .before .before .before .before .before .before .before .before .before .before .before .before .before .before .before .before .before .before .before .before .before .before .before .before .before .before .before .before .before .before .before .before .before .before .before))
 
--- src/lib.rt:168:27
-part-write-event-end :
-    tie.Need-part-write-event-end Inv-loop3 μ-loop3 Inv-loop2 μ-loop2 Inv-loop μ-loop
-part-write-event-end c = ?
+part-write-event-end : tie.Need-part-write-event-end Inv-loop3 μ-loop3 Inv-loop2 μ-loop2 Inv-loop μ-loop
+part-write-event-end c = omega (arith, room (c .before .before .before .before .before .before .before .before .before .before .before .before .before .before .before .before .before .before .before .before .before .before .before .before .before .before .before .before .before .before .before .before .before .before .before .before .before .before .before .before .before .before .before .before .before .before .before .before .before .before .before .before .before .before .before .before .before .before .before .before .before .before .before .before .before .before .before .before .before .before .before .before .before .before .before .before .before .before .before .before .before .before .before .before .before .before .before .before .before .before .before .before .before .before .before))
 
--- src/lib.rt:168:9
-write-event-requires :
-    tie.Need-write-event-requires Inv-loop3 μ-loop3 Inv-loop2 μ-loop2 Inv-loop μ-loop
-write-event-requires c κs = ?
+write-event-requires : tie.Need-write-event-requires Inv-loop3 μ-loop3 Inv-loop2 μ-loop2 Inv-loop μ-loop
+write-event-requires c κs = simp (length-drop, length-take) (omega (arith, room (c .before .before .before .before .before .before .before .before .before .before .before .before .before .before .before .before .before .before .before .before .before .before .before .before .before .before .before .before .before .before .before .before .before .before .before .before .before .before .before .before .before .before .before .before .before .before .before .before .before .before .before .before .before .before .before .before .before .before .before .before .before .before .before .before .before .before .before .before .before .before .before .before .before .before .before .before .before .before .before .before .before .before .before .before .before .before .before .before .before .before .before .before .before .before .before .before)))
 
--- src/lib.rt:169:18
 add-events : tie.Need-add-events Inv-loop3 μ-loop3 Inv-loop2 μ-loop2 Inv-loop μ-loop
-add-events c = ?
+add-events c = omega (arith, room (c .before .before .before .before .before .before .before .before .before .before .before .before .before .before .before .before .before .before .before .before .before .before .before .before .before .before .before .before .before .before .before .before .before .before .before .before .before .before .before .before .before .before .before .before .before .before .before .before .before .before .before .before .before .before .before .before .before .before .before .before .before .before .before .before .before .before .before .before .before .before .before .before .before .before .before .before .before .before .before .before .before .before .before .before .before .before .before .before .before .before .before .before .before .before .before .before .before .before .before))
 
--- src/lib.rt:35:5
 loop-less : tie.Need-loop-less Inv-loop3 μ-loop3 Inv-loop2 μ-loop2 Inv-loop μ-loop
-loop-less c = ?
+loop-less c = omega (arith, room (c .before .before .before .before .before .before .before .before .before .before .before .before .before .before .before .before .before .before .before .before .before .before .before .before .before .before .before .before .before .before .before .before .before .before .before .before .before .before .before .before .before .before .before .before .before .before .before .before .before .before .before .before .before .before .before .before .before .before .before .before .before .before .before .before .before .before .before .before .before .before .before .before .before .before .before .before .before .before .before .before .before .before .before .before .before .before .before .before .before .before .before .before .before .before .before .before .before .before .before) .2, c .before .before .before .before .before .before .before .before .before .before .before .before .before .before .before .before .before .before .before .before .before .before .before .before .before .before .before .before .before .before .before .before .before .before .before .before .before .before .before .before .before .before .before .before .before .before .before .before .before .before .before .before .before .before .before .before .before .before .before .before .before .before .before .before .before .before .before .before .before .before .before .before .before .before .before .before .before .before .before .before .before .before .before .before .before .before .before .before .before .before .before .before .before .before .before .before .before .before .before .before .before .loop2 .inv .1)
 
--- src/lib.rt:35:5
 loop-again : tie.Need-loop-again Inv-loop3 μ-loop3 Inv-loop2 μ-loop2 Inv-loop μ-loop
-loop-again c = ?
+loop-again c = let l = c .before .before .before .before .before .before .before .before .before .before .before .before .before .before .before .before .before .before .before .before .before .before .before .before .before .before .before .before .before .before .before .before .before .before .before .before .before .before .before .before .before .before .before .before .before .before .before .before .before .before .before .before .before .before .before .before .before .before .before .before .before .before .before .before .before .before .before .before .before .before .before .before .before .before .before .before .before .before .before .before .before .before .before .before .before .before .before .before .before .before .before .before .before .before .before .before .before .before .before .before .before .loop2 in
+    let o = c .before .before .before .before .before .before .before .before .before .before .before .before .before .before .before .before .before .before .before .before .before .before .before .before .before .before .before .before .before .before .before .before .before .before .before .before .before .before .before .before .before .before .before .before .before .before .before .before .before .before .before .before .before .before .before .before .before .before .before .before .before .before .before .before .before .before .before .before .before .before .before .before .before .before .before .before .before .before .before .before .before .before .before .before .before .before .before .before .before .before .before .before .before .before .before .before .before .before .before .before .before .before .loop in
+    let b = now (c .before .before .before .before .before .before .before .before .before .before .before .before .before .before .before .before .before .before .before .before .before .before .before .before .before .before .before .before .before .before .before .before .before .before .before .before .before .before .before .before .before .before .before .before .before .before .before .before .before .before .before .before .before .before .before .before .before .before .before .before .before .before .before .before .before .before .before .before .before .before .before .before .before .before .before .before .before .before .before .before .before .before .before .before .before .before .before .before .before .before .before .before .before .before .before .before .before .before .before .before .before .before .before .before .before .before .before .args .batch) in
+    let i = l .inv .0 in
+    let r = room (c .before .before .before .before .before .before .before .before .before .before .before .before .before .before .before .before .before .before .before .before .before .before .before .before .before .before .before .before .before .before .before .before .before .before .before .before .before .before .before .before .before .before .before .before .before .before .before .before .before .before .before .before .before .before .before .before .before .before .before .before .before .before .before .before .before .before .before .before .before .before .before .before .before .before .before .before .before .before .before .before .before .before .before .before .before .before .before .before .before .before .before .before .before .before .before .before .before .before .before) in
+    let left = r .2 in
+    let u = c .before .before .before .before .before .before .before .before .before .before .before .before .before .before .before .before .before .before .before .before .before .before .before .before .before .before .before .before .before .before .loop3 .h in
+    let z = c .before .before .before .before .before .before .before .before .before .before .before .before .before .before .before .before .before .before .before .before .before .before .before .before .before .before .before .before .before .before .before .before .before .before .before .before .before .before .filtered .result .gives .event in
+    let wrote = c .before .before .write-event .ensures in
+    let long = put-length (o .out) (o .events) (r .0) z wrote in (
+      record {
+        at-small = place-small (l .h .waiting) b (l .at) (l .h .pads) (c .before .before .before .before .before .before .before .before .before .before .before .before .before .before .before .before .before .before .before .before .before .before .before .before .before .before .before .before .before .before .before .before .before .before .before .before .before .before .before .before .before .before .before .before .before .before .before .before .before .before .before .before .before .before .before .before .before .before .before .before .before .before .before .before .before .before .before .before .before .before .before .before .before .before .before .before .before .before .before .before .before .before .before .before .before .before .before .before .before .find .result .kind) (c .before .before .before .before .before .before .before .before .before .before .before .before .before .before .before .before .before .before .before .before .before .before .before .before .before .before .before .before .before .before .before .before .before .before .before .before .before .before .before .before .before .before .before .before .before .before .before .before .before .before .before .before .before .before .before .before .before .before .before .before .before .before .before .before .before .before .before .before .before .before .before .before .before .before .before .before .before .before .before .before .before .before .before .before .before .before .before .before .before .before .before .before .before .before .before .before .before .before .look .ensures) (c .before .before .before .before .before .before .before .before .before .before .before .before .before .before .before .before .before .before .before .before .before .before .before .before .before .before .before .before .before .before .before .before .before .before .before .before .before .before .before .before .before .before .before .before .before .before .before .before .before .before .before .before .before .before .before .before .before .before .before .before .before .before .before .before .before .before .before .before .before .before .before .before .before .before .before .before .before .before .before .before .before .before .before .before .before .before .before .before .refusal .ensures) (c .before .before .before .before .before .before .before .before .before .before .before .before .before .before .before .before .before .before .before .before .before .before .before .before .before .before .before .before .before .before .before .before .before .before .before .before .before .before .before .before .before .before .before .before .before .before .before .before .before .before .before .before .before .before .before .before .before .before .before .before .before .before .before .before .before .before .before .before .before .before .before .before .before .before .before .before .before .before .before .before .before .before .before .before .before .before .before .if3 .left) (c .before .before .before .before .before .before .before .before .before .before .before .before .before .before .before .before .before .before .before .before .before .before .before .before .before .before .before .before .before .before .before .before .before .before .before .before .before .before .before .before .before .before .before .before .before .before .before .before .before .before .before .before .before .before .before .before .before .before .before .before .before .before .before .before .before .before .place-after .ensures) (i .at-small);
+        batch-small = i .batch-small;
+        out-small = rw long (i .out-small);
+        room = rw long (omega (arith, r .0));
+        steps-small = omega (arith, i .steps-small);
+        same =
+            sym
+            (run-goes (l .h) b (l .at) (o .out) (o .events) (l .steps) (l .left) (c .before .before .before .before .before .before .before .before .before .before .before .before .before .before .before .before .before .before .before .before .before .before .before .before .before .before .before .before .before .before .before .before .before .before .before .before .before .before .before .before .before .before .before .before .before .before .before .before .before .before .before .before .before .before .before .before .before .before .before .before .before .before .before .before .before .before .before .before .before .before .before .before .before .before .before .before .before .before .before .before .before .before .before .before .before .before .before .before .before .before .before .before .before .before .before .before .before .before .before .before .stop .ensures) (c .before .before .before .before .before .before .before .before .before .before .before .before .before .before .before .before .before .before .before .before .before .before .before .before .before .before .before .before .before .before .before .before .before .before .before .before .before .before .before .before .before .before .before .before .before .before .before .before .before .before .before .before .before .before .before .before .before .before .before .before .before .before .before .before .before .before .before .before .before .before .before .before .before .before .before .before .before .before .before .before .before .before .before .before .before .before .before .before .before .before .before .before .before .before .before .before .before .before .before .if2 .left)
+            (refusal-is (l .h) b (l .at) (c .before .before .before .before .before .before .before .before .before .before .before .before .before .before .before .before .before .before .before .before .before .before .before .before .before .before .before .before .before .before .before .before .before .before .before .before .before .before .before .before .before .before .before .before .before .before .before .before .before .before .before .before .before .before .before .before .before .before .before .before .before .before .before .before .before .before .before .before .before .before .before .before .before .before .before .before .before .before .before .before .before .before .before .before .before .before .before .before .before .before .before .before .before .before .before .before .before .before .look .ensures) (c .before .before .before .before .before .before .before .before .before .before .before .before .before .before .before .before .before .before .before .before .before .before .before .before .before .before .before .before .before .before .before .before .before .before .before .before .before .before .before .before .before .before .before .before .before .before .before .before .before .before .before .before .before .before .before .before .before .before .before .before .before .before .before .before .before .before .before .before .before .before .before .before .before .before .before .before .before .before .before .before .before .before .before .before .before .before .before .before .before .find .ensures .is) (c .before .before .before .before .before .before .before .before .before .before .before .before .before .before .before .before .before .before .before .before .before .before .before .before .before .before .before .before .before .before .before .before .before .before .before .before .before .before .before .before .before .before .before .before .before .before .before .before .before .before .before .before .before .before .before .before .before .before .before .before .before .before .before .before .before .before .before .before .before .before .before .before .before .before .before .before .before .before .before .before .before .before .before .before .before .before .before .before .refusal .ensures)) (c .before .before .before .before .before .before .before .before .before .before .before .before .before .before .before .before .before .before .before .before .before .before .before .before .before .before .before .before .before .before .before .before .before .before .before .before .before .before .before .before .before .before .before .before .before .before .before .before .before .before .before .before .before .before .before .before .before .before .before .before .before .before .before .before .before .before .before .before .before .before .before .before .before .before .before .before .before .before .before .before .before .before .before .before .before .before .before .if3 .left)
+            (step-keeps (l .h) b (l .at) (o .out) (o .events) (l .steps) (c .before .before .before .before .before .before .before .before .before .before .before .before .before .before .before .before .before .before .before .before .before .before .before .before .before .before .before .before .before .before .before .before .before .before .before .before .before .before .before .before .before .before .before .before .before .before .before .before .before .before .before .before .before .before .before .before .before .before .before .before .before .before .before .before .before .before .before .before .before .before .before .before .before .before .before .before .before .before .before .before .before .before .before .before .before .before .before .before .before .before .before .before .before .before .before .before .before .before .look .ensures) (turns (c .before .before .before .before .before .before .before .before .before .before .before .before .before .before .before .before .before .before .before .before .before .before .before .before .before .before .before .before .before)) (c .before .before .before .before .before .before .before .before .before .before .before .before .before .before .before .before .before .before .before .before .before .before .before .before .before .before .before .before .before .before .before .before .before .before .before .before .before .before .before .before .before .before .before .before .before .before .before .before .before .before .before .before .before .before .before .before .before .before .before .before .before .before .before .before .before .before .place-after .ensures)
+            (sym (c .before .before .before .before .before .before .before .before .before .before .before .before .before .before .before .before .before .before .before .before .before .before .before .before .before .before .before .kept .ensures) ∙ c .before .before .before .before .before .before .before .before .before .before .before .before .before .before .before .before .before .before .before .before .before .before .before .before .before .before .if4 .taken)
+            (update-is (u .updates) u z (c .before .before .before .before .before .before .before .before .before .before .before .before .before .before .before .before .before .before .before .before .before .before .before .code-of2 .ensures) (c .before .before .before .before .before .before .before .before .before .before .before .before .before .before .before .before .before .before .before .before .before .before .place-of .ensures .is) (c .before .before .before .before .before .before .before .before .before .before .before .before .before .before .before .before .before .before .before .bool-at .ensures) (c .before .before .before .before .before .before .before .before .before .before .before .before .before .before .before .before .bool-at2 .ensures) (c .before .before .before .before .before .before .before .before .before .before .before .before .before .before .button-written .ensures) (c .before .before .before .before .before .before .before .before .before .before .before .before .axis-written .ensures) (c .before .before .before .before .before .before .before .before .before .before .before .writes-button .ensures) (c .before .before .before .before .before .before .before .before .before .before .known-after .ensures) (c .before .before .before .before .before .before .before .before .before .writes-axis .ensures) (c .before .before .before .before .before .before .before .before .known-after2 .ensures) (c .before .before .before .before .before .before .mark .ensures) (c .before .before .before .before .mark2 .ensures))
+            (put-is (o .out) (o .events) (r .0) z wrote)))
+            ∙ i .same ∙ o .inv .0 .same;
+      },
+      long ∙ o .inv .1,
+    )
 
 pub pump-spec : {M : Type 1} → statement M
 pump-spec =

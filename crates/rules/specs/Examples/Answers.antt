@@ -1,7 +1,7 @@
 -- What each case of each answer says: 01's number, and the values beside it. Assumes nothing.
-use mathlib.Core.Path.{_≡_, refl}
+use mathlib.Core.Path.{refl}
 use mathlib.Core.Bool.{true, false}
-use mathlib.Core.List.{List, [], _∷_}
+use mathlib.Core.List.{[], _∷_}
 use lib.Ieee as Ieee
 use Rattle.numbers.specs.Constants.{one32, minusOne32}
 use Rattle.rules.specs.declared.EventType.the-variants.{Repeated}
@@ -16,7 +16,7 @@ use Rattle.rules.specs.declared.AxisAnswer.the-variants as axisAnswer
 use Rattle.rules.specs.declared.NumberAnswer.the-variants as numberAnswer
 use Rattle.rules.specs.Events.{eventBytes}
 use Rattle.rules.specs.Answers.{served, refused, answerSays, registerSays, pumpSays, repeatSays, truthSays, valueSays, buttonSays, axisSays, numberSays}
-use Rattle.rules.specs.Examples.Table.{Case, _is_, Right, event}
+use Rattle.rules.specs.Examples.Table.{_is_, Right, event}
 
 -- "The answer holds reason, place, events written, and the number of steps made"; a refusal in the pump stands beside place, events and steps
 calls :

@@ -1,27 +1,24 @@
 -- The public calls: new, register, rename, update, insert_event and the counter. Assumes nothing.
 use Prim.Native.Nat.{ℕ, zero, suc}
 use mathlib.Core.Path.{_≡_, refl}
-use mathlib.Core.Bool.{Bool, true, false}
-use mathlib.Core.List.{List, [], _∷_, _++_, map}
-use lib.ListN.{getD, take, drop, replicate}
-use lib.IntN.{ℤ, pos, negsuc}
+use mathlib.Core.Bool.{true, false}
+use mathlib.Core.List.{List, [], _∷_}
+use lib.ListN.{take, replicate}
 use lib.Ieee as Ieee
-use Rattle.numbers.specs.Constants.{zero32, one32}
+use Rattle.numbers.specs.Constants.{one32}
 use Rattle.rules.specs.declared.Hub.{Hub}
 use Rattle.rules.specs.declared.Event.{Event}
-use Rattle.rules.specs.declared.EventType.the-variants.{Pressed, Released, Repeated, Changed, Axis, Connected, Disconnected}
-use Rattle.rules.specs.declared.Answer.{Answer}
+use Rattle.rules.specs.declared.EventType.the-variants.{Pressed, Changed, Axis, Connected, Disconnected}
 use Rattle.rules.specs.declared.Answer.the-variants as answer
-use Rattle.rules.specs.declared.RegisterAnswer.{RegisterAnswer}
 use Rattle.rules.specs.declared.RegisterAnswer.the-variants as registerAnswer
 use Rattle.rules.specs.declared.PumpAnswer.the-variants.{Drained}
-use Rattle.rules.specs.Names.{codeUp, codeLeft, codeRight, dpadLeft, dpadRight}
+use Rattle.rules.specs.Names.{codeUp, codeRight, dpadRight}
 use Rattle.rules.specs.Sheets.{sheetBytes}
-use Rattle.rules.specs.Hub.{placeIn, touchedAt, buttonAt, movedAt, axisAt}
+use Rattle.rules.specs.Hub.{placeIn, touchedAt, movedAt, axisAt}
 use Rattle.rules.specs.Places.{placeOf}
 use Rattle.rules.specs.Calls.{newOf, idleHub, registerOf, renameOf, updateOf, insertOf, incOf, resetOf}
-use Rattle.rules.specs.Examples.Table.{Case, _is_, Right, button, event, half32, threeQuarters32}
-use Rattle.rules.specs.Examples.Desk.{bare, sheet, desk, south, plain, stickX, trigger, hatX, raw, press, move, connect, disconnect, pump, after, tells, told, eventsBytes}
+use Rattle.rules.specs.Examples.Table.{_is_, Right, button, event, half32, threeQuarters32}
+use Rattle.rules.specs.Examples.Desk.{bare, desk, south, stickX, hatX, raw, press, disconnect, pump, after, tells, told, eventsBytes}
 
 -- ---- new
 
@@ -82,8 +79,8 @@ renames :
 unfolding list desk after raw renameOf
 renames = refl
 
-rename-refused : renameOf (desk true true) 0 (0 ∷ []) .hub ≡ desk true true
-unfolding desk renameOf
+rename-refused : renameOf (blank 1) 0 (0 ∷ []) .hub ≡ blank 1
+unfolding blank bare registerOf sheetBytes renameOf
 rename-refused = refl
 
 -- the i-th name goes to the i-th element, past the unlisted directions between them; the sheet's own names stay beside
@@ -105,7 +102,8 @@ at-once :
 unfolding half-pumped list pump tells told desk raw renameOf
 at-once = refl
 
--- ---- update: "8, 6, 9, 11, 12", then the record of the event's code
+-- ---- update: "8, 6, 9, 11, 12", then the record of the event's code. "an event may also carry a direction code", of an axis too; AXIS on a button's code,
+-- PRESSED on an axis's code and a name other than the code's own are accepted
 
 one : Event → List ℕ
 one e = eventsBytes (e ∷ [])
@@ -115,6 +113,8 @@ updates :
     updateOf (desk true true) (one (event 5 (Pressed 1 south))) .answer is answer.Done
     ∷ updateOf (desk true true) (one (event 5 (Pressed 0 codeUp))) .answer is answer.Done
     ∷ updateOf (desk true true) (one (event 5 (Axis 40 south one32))) .answer is answer.Done
+    ∷ updateOf (desk true true) (one (event 5 (Axis 33 codeUp one32))) .answer is answer.Done
+    ∷ updateOf (desk true true) (one (event 5 (Pressed 2 stickX))) .answer is answer.Done
     ∷ updateOf (desk true true) [] .answer is answer.Refused 8
     ∷ updateOf (desk true true) (one (event 5 (Pressed 33 0))) .answer is answer.Refused 8
     ∷ updateOf (bare true true) (one (event 5 (Pressed 1 0))) .answer is answer.Refused 6
@@ -125,14 +125,14 @@ updates :
 unfolding one bare desk eventsBytes updateOf
 updates = refl
 
--- Connected and Disconnected given to `update` change no state and not the connected flag
+-- Connected and Disconnected given to `update` change no state and not the connected flag, and a refused event changes nothing
 unchanged :
     Right (
-    updateOf (desk true true) (one (event 5 Connected)) .hub is desk true true
-    ∷ updateOf (desk true true) (one (event 5 Disconnected)) .hub is desk true true
-    ∷ updateOf (desk true true) (one (event 5 (Pressed 1 0))) .hub is desk true true
+    updateOf (blank 1) (one (event 5 Connected)) .hub is blank 1
+    ∷ updateOf (blank 1) (one (event 5 Disconnected)) .hub is blank 1
+    ∷ updateOf (blank 1) (one (event 5 (Pressed 1 0))) .hub is blank 1
     ∷ [])
-unfolding one desk eventsBytes updateOf
+unfolding one blank bare registerOf sheetBytes eventsBytes updateOf
 unchanged = refl
 
 -- an axis event on a button's code makes an axis record there, beside the button record; also with updates off
@@ -163,8 +163,8 @@ inserts :
 unfolding inserting half-pumped one pump desk raw eventsBytes insertOf
 inserts = refl
 
-insert-refused : insertOf (desk true true) (one (event 5 (Pressed 1 0))) .hub ≡ desk true true
-unfolding one desk eventsBytes insertOf
+insert-refused : insertOf (blank 1) (one (event 5 (Pressed 1 0))) .hub ≡ blank 1
+unfolding one blank bare registerOf sheetBytes eventsBytes insertOf
 insert-refused = refl
 
 -- an inserted hat event is converted as a record's is

@@ -2,20 +2,19 @@
 use Prim.Native.Nat.{ℕ, _*_}
 use mathlib.Core.Bool.{Bool, true, false}
 use mathlib.Core.List.{List, [], _∷_, _++_}
-use lib.ListN.{length, take, replicate}
+use lib.ListN.{take, replicate}
 use lib.IntN.{ℤ, pos, negsuc}
 use lib.Ieee as Ieee
 use Rattle.rules.specs.declared.Hub.{Hub}
 use Rattle.rules.specs.declared.Event.{Event}
-use Rattle.rules.specs.declared.EventType.{EventType}
 use Rattle.rules.specs.declared.SheetElement.{SheetElement}
 use Rattle.rules.specs.declared.PumpAnswer.{PumpAnswer}
 use Rattle.rules.specs.Forms.{recordBytes}
 use Rattle.rules.specs.Sheets.{sheetBytes}
 use Rattle.rules.specs.Events.{eventBytes}
 use Rattle.rules.specs.Pump.{Run, pumpOf}
-use Rattle.rules.specs.Calls.{newOf, registerOf}
-use Rattle.rules.specs.Examples.Table.{button, axis, event, half32, threeQuarters32}
+use Rattle.rules.specs.Calls.{newOf, registerOf, updateOf}
+use Rattle.rules.specs.Examples.Table.{button, axis, half32, threeQuarters32}
 
 -- ---- the pad
 
@@ -66,15 +65,11 @@ unfoldable pub twoPads : Hub
 unfolding desk sheet registerOf
 twoPads = registerOf (desk true true) sheet .hub
 
--- ---- records, of pad 0 where none is given
-
-unfoldable pub rawOf : ℕ → ℕ → ℕ → ℤ → ℕ → List ℕ
-unfolding recordBytes
-rawOf pad kind code value time = recordBytes (record { kind = kind; pad = pad; code = code; value = value; time = time })
+-- ---- records of pad 0
 
 unfoldable pub raw : ℕ → ℕ → ℤ → ℕ → List ℕ
-unfolding rawOf
-raw kind code value time = rawOf 0 kind code value time
+unfolding recordBytes
+raw kind code value time = recordBytes (record { kind = kind; pad = 0; code = code; value = value; time = time })
 
 abbrev pub press : ℕ → ℕ → List ℕ
 press code time = raw 1 code (pos 0) time
@@ -124,3 +119,10 @@ tells h batch n = record { answer = pumped h batch .pumped .answer; bytes = take
 unfoldable pub told : PumpAnswer → List Event → Told
 unfolding eventsBytes
 told answer es = record { answer = answer; bytes = eventsBytes es }
+
+-- ---- a hub whose state is set by events given to `update`
+
+unfoldable pub given : Hub → List Event → Hub
+unfolding eventsBytes updateOf
+given h [] = h
+given h (e ∷ es) = given (updateOf h (eventsBytes (e ∷ [])) .hub) es

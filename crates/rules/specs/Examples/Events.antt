@@ -1,17 +1,16 @@
 -- Events: the numbers of the eight kinds, how one waits and comes back, and its bytes. Assumes nothing.
 use Prim.Native.Nat.{ℕ}
 use mathlib.Core.Path.{_≡_, refl}
-use mathlib.Core.Bool.{Bool, true, false}
+use mathlib.Core.Bool.{true, false}
 use mathlib.Core.List.{List, [], _∷_, map}
 use lib.Ieee as Ieee
-use lib.Ieee.{Float, binary32, ofBits}
+use lib.Ieee.{ofBits}
 use Rattle.numbers.specs.Constants.{one32, minusOne32}
 use Rattle.rules.specs.declared.Event.{Event}
-use Rattle.rules.specs.declared.EventType.{EventType}
 use Rattle.rules.specs.declared.EventType.the-variants.{Pressed, Released, Repeated, Changed, Axis, Connected, Disconnected, Dropped}
 use Rattle.rules.specs.declared.EventForm.{EventForm}
 use Rattle.rules.specs.Events.{kindOf, nameOf, codeOf, slotOf, eventOf, formOf, formEvent, eventBytes, isDropped, alone, followed, followedByThree, queuedOf}
-use Rattle.rules.specs.Examples.Table.{Case, _is_, Right, event}
+use Rattle.rules.specs.Examples.Table.{_is_, Right, event}
 
 -- one event of each kind, in 01's order
 eight : List Event

@@ -8,7 +8,7 @@ use lib.Ieee.{Float, binary32, ofBits}
 use Rattle.numbers.specs.Constants.{zero32, one32, minusOne32}
 use Rattle.rules.specs.declared.Event.{Event}
 use Rattle.rules.specs.declared.EventType.{EventType}
-use Rattle.rules.specs.declared.EventType.the-variants.{Pressed, Released, Repeated, Changed, Axis, Connected, Disconnected, Dropped}
+use Rattle.rules.specs.declared.EventType.the-variants.{Pressed, Released, Repeated, Changed, Axis, Connected, Dropped}
 use Rattle.rules.specs.declared.View.{View}
 use Rattle.rules.specs.declared.Flags.{Flags}
 use Rattle.rules.specs.declared.Partner.{Partner}
@@ -17,7 +17,7 @@ use Rattle.rules.specs.declared.Filtered.{Filtered}
 use Rattle.rules.specs.Names.{codeUp, codeDown, codeLeft, codeRight, dpadUp, dpadDown, dpadLeft, dpadRight, dpadX, dpadY, leftStickX, leftStickY}
 use Rattle.rules.specs.Events.{queuedOf}
 use Rattle.rules.specs.Filters.{dpadOf, jitteredOf, filteredOf, keptOf}
-use Rattle.rules.specs.Examples.Table.{Case, _is_, Right, event, half32, threeQuarters32}
+use Rattle.rules.specs.Examples.Table.{_is_, Right, event, half32, threeQuarters32}
 
 -- ---- what a filter may see
 
@@ -81,6 +81,11 @@ sent g = g .event ∷ queuedOf g
 
 events : List EventType → List Event
 events ts = map (event 7) ts
+
+-- the filters, their arithmetic open
+filtered : Bool → View → EventType → Filtered
+unfolding filteredOf Ieee.ofBits Ieee.add Ieee.sub Ieee.mul Ieee.div Ieee.lt Ieee.le Ieee.eq Ieee.ne Ieee.neg
+filtered on v t = filteredOf on v (event 7 t)
 
 -- ---- dpad: "Only exactly 1.0 and -1.0 press"
 
@@ -187,7 +192,7 @@ outcome f = record { events = sent (f .gives); own = f .flags .own; partner = f 
 
 -- an event at threshold 0.5, from the value that the state has, the partner and the flags
 zone : Float → Partner → Flags → EventType → Outcome
-zone own partner flags t = outcome (filteredOf true (deadView true own partner flags) (event 7 t))
+zone own partner flags t = outcome (filtered true (deadView true own partner flags) t)
 
 -- the partner LeftStickY, code 22, at a value
 beside : Float → Partner
@@ -207,7 +212,7 @@ zones :
     ∷ zone half32 (beside zero32) (flagged false true) (Axis leftStickX 11 threeQuarters32) is out (Dropped ∷ []) false true
     ∷ zone zero32 (beside one32) (flagged false true) (Axis leftStickX 11 one32) is out (Axis leftStickX 11 one32 ∷ []) true true
     ∷ [])
-unfolding zone out outcome sent queuedOf deadView beside quarter flagged filteredOf Ieee.ofBits Ieee.add Ieee.sub Ieee.mul Ieee.div Ieee.lt Ieee.le Ieee.eq Ieee.ne Ieee.neg
+unfolding zone out outcome sent queuedOf deadView beside quarter flagged filtered
 zones = refl
 
 -- the clearing event: both in the dead zone, the partner's flag up and its value not 0; queued also behind a dropped event; once, since the flag falls
@@ -221,7 +226,7 @@ clears :
     ∷ zone half32 (beside half32) (flagged true true) (Axis leftStickX 11 half32)
     is out (Axis leftStickX 11 (ofBits binary32 0x3e95f619) ∷ []) true true
     ∷ [])
-unfolding zone out outcome sent queuedOf deadView beside quarter flagged filteredOf Ieee.ofBits Ieee.add Ieee.sub Ieee.mul Ieee.div Ieee.lt Ieee.le Ieee.eq Ieee.ne Ieee.neg
+unfolding zone out outcome sent queuedOf deadView beside quarter flagged filtered
 clears = refl
 
 -- an axis whose partner no element has, LeftZ, which has none, and a trigger's value, whose flag and partner are not looked at
@@ -234,12 +239,12 @@ partnerless :
     ∷ zone half32 (beside quarter) (flagged true true) (Changed 8 11 threeQuarters32) is out (Dropped ∷ []) true true
     ∷ zone half32 (beside quarter) (flagged true true) (Changed 8 11 quarter) is out (Changed 8 11 zero32 ∷ []) true true
     ∷ [])
-unfolding zone out outcome sent queuedOf deadView beside apart quarter flagged filteredOf Ieee.ofBits Ieee.add Ieee.sub Ieee.mul Ieee.div Ieee.lt Ieee.le Ieee.eq Ieee.ne Ieee.neg
+unfolding zone out outcome sent queuedOf deadView beside apart quarter flagged filtered
 partnerless = refl
 
 -- "Elements without one pass", and so does an event of another kind
 undeadened : EventType → Outcome
-undeadened t = outcome (filteredOf true (deadView false half32 (beside quarter) (flagged true true)) (event 7 t))
+undeadened t = outcome (filtered true (deadView false half32 (beside quarter) (flagged true true)) t)
 
 passing :
     Right (
@@ -250,7 +255,7 @@ passing :
     ∷ zone zero32 (beside quarter) (flagged true true) (Repeated 8 11) is out (Repeated 8 11 ∷ []) true true
     ∷ zone zero32 (beside quarter) (flagged true true) Connected is out (Connected ∷ []) true true
     ∷ [])
-unfolding undeadened zone out outcome sent queuedOf deadView beside apart quarter flagged filteredOf Ieee.ofBits Ieee.add Ieee.sub Ieee.mul Ieee.div Ieee.lt Ieee.le Ieee.eq Ieee.ne Ieee.neg
+unfolding undeadened zone out outcome sent queuedOf deadView beside apart quarter flagged filtered
 passing = refl
 
 -- ---- "in the order dpad, jitter, deadzone", "if on"
@@ -260,7 +265,7 @@ close : Float
 close = ofBits binary32 0x3f4147ae
 
 filter : Bool → Bool → Float → EventType → List Event
-filter on converts stick t = sent (filteredOf on (storedView converts true stick) (event 7 t) .gives)
+filter on converts stick t = sent (filtered on (storedView converts true stick) t .gives)
 
 order :
     Right (
@@ -269,7 +274,7 @@ order :
     ∷ filter true false zero32 (Axis leftStickX 11 threeQuarters32) is events (Axis leftStickX 11 half32 ∷ [])
     ∷ filter false true threeQuarters32 (Axis dpadX 11 threeQuarters32) is events (Axis dpadX 11 threeQuarters32 ∷ [])
     ∷ [])
-unfolding filter close storedView events apart flagged sent queuedOf filteredOf Ieee.ofBits Ieee.add Ieee.sub Ieee.mul Ieee.div Ieee.lt Ieee.le Ieee.eq Ieee.ne Ieee.neg
+unfolding filter close storedView events apart flagged sent queuedOf filtered
 order = refl
 
 -- "a dropped one is skipped (filters on)"

@@ -1,18 +1,16 @@
 -- The byte forms: a good record and a good event, byte by byte, and one of each damaged in every field. Assumes nothing.
 use Prim.Native.Nat.{ℕ}
 use mathlib.Core.Path.{_≡_, refl}
-use mathlib.Core.Bool.{Bool, true, false}
+use mathlib.Core.Bool.{true, false}
 use mathlib.Core.List.{List, [], _∷_, _++_, map}
 use lib.ListN.{set, take}
-use lib.IntN.{ℤ, pos, negsuc}
+use lib.IntN.{pos, negsuc}
 use Rattle.rules.specs.declared.RawRecord.{RawRecord}
-use Rattle.rules.specs.declared.RecordRead.{RecordRead}
 use Rattle.rules.specs.declared.RecordRead.the-variants as recordRead
 use Rattle.rules.specs.declared.EventForm.{EventForm}
-use Rattle.rules.specs.declared.EventRead.{EventRead}
 use Rattle.rules.specs.declared.EventRead.the-variants as eventRead
 use Rattle.rules.specs.Forms.{fieldOf, signedOf, bitsOfSigned, readRecord, recordFits, recordBytes, readEvent, eventFits, formBytes}
-use Rattle.rules.specs.Examples.Table.{Case, _is_, Right}
+use Rattle.rules.specs.Examples.Table.{_is_, Right}
 
 -- ---- fields: "big-endian", "signed"
 

@@ -1,21 +1,20 @@
 -- What is read of the hub, and the ring of waiting events. Assumes nothing.
-use Prim.Native.Nat.{ℕ, _+_}
 use mathlib.Core.Path.{_≡_, refl}
-use mathlib.Core.Bool.{Bool, true, false}
-use mathlib.Core.List.{List, [], _∷_, _++_, map}
-use lib.ListN.{getD, set, replicate}
-use lib.IntN.{ℤ, pos, negsuc}
+use mathlib.Core.Bool.{true, false}
+use mathlib.Core.List.{List, [], _∷_}
+use lib.ListN.{set, replicate}
+use lib.IntN.{pos}
 use Rattle.numbers.specs.Constants.{zero32, one32}
 use Rattle.rules.specs.declared.Hub.{Hub}
 use Rattle.rules.specs.declared.Slot.{Slot}
 use Rattle.rules.specs.declared.Event.{Event}
 use Rattle.rules.specs.declared.EventType.the-variants.{Pressed, Axis, Dropped}
-use Rattle.rules.specs.declared.View.{View}
+use Rattle.rules.specs.Names.{codeRight}
 use Rattle.rules.specs.Events.{slotOf}
-use Rattle.rules.specs.Hub.{flagPlace, viewOf, frontOf, queueAfter, waitingAfter, pastSlot}
+use Rattle.rules.specs.Hub.{flagPlace, viewOf, frontOf, queueAfter, waitingAfter}
 use Rattle.rules.specs.Calls.{blankSlot, insertOf}
-use Rattle.rules.specs.Examples.Table.{Case, _is_, Right, event, half32}
-use Rattle.rules.specs.Examples.Desk.{desk, raw, move, press, after, stickX, stickY, hatX, south, eventsBytes}
+use Rattle.rules.specs.Examples.Table.{_is_, Right, event, half32}
+use Rattle.rules.specs.Examples.Desk.{desk, raw, move, after, stickX, stickY, hatX, south, given, eventsBytes}
 
 -- ---- a pad's six deadzone flags; past the 24 for an axis that has none, and for a pad that is none
 
@@ -25,15 +24,12 @@ flags = refl
 
 -- ---- what the filters see
 
--- LeftStickY stands at 1.0, which the deadzone leaves, and LeftStickX at 0.5, which it makes smaller; "the partner read from the state"
+-- LeftStickY stands at 1.0: "the partner read from the state"
 tilted : Hub
-tilted = after (desk true true) (move stickY (pos 4) 5)
-
-seen : View
-seen = viewOf tilted (event 7 (Axis 33 stickX one32))
+tilted = given (desk true true) (event 5 (Axis 34 stickY one32) ∷ [])
 
 stick-seen :
-    seen
+    viewOf tilted (event 7 (Axis 33 stickX one32))
     ≡ record {
       converts = true;
       positive = false;
@@ -44,14 +40,28 @@ stick-seen :
       threshold = half32;
       own = zero32;
       partner = record { stands = true; code = stickY; value = one32 };
-      flags = record { own = false; partner = true };
+      flags = record { own = false; partner = false };
     }
-unfolding seen tilted after desk raw viewOf
+unfolding tilted given desk viewOf
 stick-seen = refl
 
--- Right is pressed by the hat; DPadY has no element, so DPadX has no partner
+-- what jitter compares with: the axis record of the event's own code
+other-seen : viewOf tilted (event 7 (Axis 34 stickY half32)) .stick ≡ one32
+unfolding tilted given desk viewOf
+other-seen = refl
+
+-- a move out of the dead zone puts the axis's flag up: of the stick, LeftStickX's own and LeftStickY's partner
+flags-seen :
+    Right (
+    viewOf (after (desk true true) (move stickX (pos 4) 5)) (event 7 (Axis 33 stickX one32)) .flags is record { own = true; partner = false }
+    ∷ viewOf (after (desk true true) (move stickX (pos 4) 5)) (event 7 (Axis 34 stickY one32)) .flags is record { own = false; partner = true }
+    ∷ [])
+unfolding after desk raw viewOf
+flags-seen = refl
+
+-- Right is pressed; DPadY has no element, so DPadX has no partner
 hat-seen :
-    viewOf (after (desk true true) (move hatX (pos 1) 5)) (event 7 (Axis 39 hatX one32))
+    viewOf (given (desk true true) (event 5 (Pressed 19 codeRight) ∷ [])) (event 7 (Axis 39 hatX one32))
     ≡ record {
       converts = true;
       positive = true;
@@ -64,12 +74,12 @@ hat-seen :
       partner = record { stands = false; code = 0; value = zero32 };
       flags = record { own = false; partner = false };
     }
-unfolding after desk raw viewOf
+unfolding given desk viewOf
 hat-seen = refl
 
 -- a button's code has no threshold, and what it reads is its button record
 button-seen :
-    viewOf (after (desk true true) (press south 5)) (event 7 (Pressed 1 south))
+    viewOf (given (desk true true) (event 5 (Pressed 1 south) ∷ [])) (event 7 (Pressed 1 south))
     ≡ record {
       converts = true;
       positive = false;
@@ -82,7 +92,7 @@ button-seen :
       partner = record { stands = false; code = 0; value = zero32 };
       flags = record { own = false; partner = false };
     }
-unfolding after desk raw viewOf
+unfolding given desk viewOf
 button-seen = refl
 
 -- ---- the ring

@@ -1,9 +1,9 @@
 -- Names: sorts, pairs, flags, the directions of a hat, and `to_nec`. Assumes nothing.
 use mathlib.Core.Path.{_≡_, refl}
-use mathlib.Core.Bool.{Bool, true, false}
-use mathlib.Core.List.{List, [], _∷_, map}
+use mathlib.Core.Bool.{true, false}
+use mathlib.Core.List.{[], _∷_, map}
 use Rattle.rules.specs.Names.{isButton, isAxis, namesButton, namesAxis, nameAllowed, isY, partnerOf, flagOf, isHat, positiveName, negativeName, positiveCode, negativeCode, toNec}
-use Rattle.rules.specs.Examples.Table.{Case, _is_, Right}
+use Rattle.rules.specs.Examples.Table.{_is_, Right}
 
 -- "Button names: 0 Unknown, .. 19 DPadRight"
 button-names : Right (isButton 0 is true ∷ isButton 19 is true ∷ isButton 20 is false ∷ isButton 32 is false ∷ isButton 255 is false ∷ [])

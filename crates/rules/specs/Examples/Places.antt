@@ -1,10 +1,10 @@
 -- A pad's 52 places: how a sheet is laid out, where codes and names are found, and which pads convert. Assumes nothing.
-use Prim.Native.Nat.{ℕ, zero, suc, _+_, _*_}
+use Prim.Native.Nat.{ℕ, zero, suc, _+_}
 use mathlib.Core.Path.{_≡_, refl}
 use mathlib.Core.Bool.{Bool, true, false}
 use mathlib.Core.List.{List, [], _∷_, _++_, map}
 use lib.ListN.{length, getD, take, drop, replicate}
-use lib.IntN.{ℤ, pos, negsuc}
+use lib.IntN.{pos, negsuc}
 use lib.Ieee as Ieee
 use lib.Ieee.{binary32, toBits}
 use Rattle.rules.specs.declared.SheetElement.{SheetElement}
@@ -12,7 +12,7 @@ use Rattle.rules.specs.declared.Row.{Row}
 use Rattle.rules.specs.Sheets.{sheetBytes}
 use Rattle.rules.specs.Places.{rowsOf, placeOf, scanOf, presentNames, namedOf, convertsOf, axisElement, noElement, clearedOf}
 use Rattle.rules.specs.Calls.{rowCode, rowKind, rowName, rowElement}
-use Rattle.rules.specs.Examples.Table.{Case, _is_, Right, button, axis}
+use Rattle.rules.specs.Examples.Table.{_is_, Right, button, axis}
 
 -- ---- "in code order", the unlisted directions merged in
 
@@ -39,7 +39,7 @@ empty-pad : take 5 (map rowCode (rowsOf (sheetBytes 0 []) 0)) ≡ (0x00010220 �
 unfolding rowsOf sheetBytes
 empty-pad = refl
 
--- 48 elements below the directions, every place taken
+-- 48 elements below the directions: every one of the 52 places is taken, the last by Right
 counting : ℕ → ℕ → List ℕ
 counting zero k = []
 counting (suc n) k = k ∷ counting n (k + 1)
@@ -48,11 +48,8 @@ unnamed : List ℕ → List SheetElement
 unnamed [] = []
 unnamed (c ∷ cs) = button c 255 ∷ unnamed cs
 
-full : List ℕ
-full = map rowCode (rowsOf (sheetBytes 0 (unnamed (counting 48 0x000101f0))) 48)
-
-full-pad : full ≡ counting 52 0x000101f0
-unfolding full counting unnamed rowsOf sheetBytes
+full-pad : drop 46 (map rowCode (rowsOf (sheetBytes 0 (unnamed (counting 48 0x000101f0))) 48)) ≡ counting 6 0x0001021e
+unfolding counting unnamed rowsOf sheetBytes
 full-pad = refl
 
 -- ---- what an axis element keeps: -1..255 has an even range of 256, of which 32 are 0.25; absent is 0.1; 0..255 has an odd range
@@ -78,13 +75,13 @@ button-keeps-nothing = refl
 
 -- ---- lookup
 
--- pad 0 has the sheet above, pad 1 the full one, and pads 2 and 3 stand empty
+-- pad 0 has the sheet above, pad 1 the codes of a full one, and pads 2 and 3 stand empty
 codes : List ℕ
-codes = map rowCode rows ++ (full ++ replicate 104 0)
+codes = map rowCode rows ++ (counting 52 0x000101f0 ++ replicate 104 0)
 
 -- the halving search finds every code of a full pad, at its place
 every-code : map (placeOf codes 1) (counting 52 0x000101f0) ≡ counting 52 52
-unfolding codes rows full counting unnamed rowsOf sheetBytes placeOf
+unfolding codes rows counting rowsOf sheetBytes placeOf
 every-code = refl
 
 -- a code that is not there, another pad's, and no pad's; of the codes past the last the first is found
@@ -103,7 +100,7 @@ lookups :
     ∷ scanOf codes 52 0 0x00030000 is 5
     ∷ scanOf codes 52 0 0x00010131 is 208
     ∷ [])
-unfolding codes rows full counting unnamed rowsOf sheetBytes placeOf scanOf
+unfolding codes rows counting rowsOf sheetBytes placeOf scanOf
 lookups = refl
 
 -- ---- names

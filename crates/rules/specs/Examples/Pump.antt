@@ -1,18 +1,17 @@
 -- The pump: its stops and their order, refused records, and where its events go. Assumes nothing.
-use Prim.Native.Nat.{ℕ, _*_}
+use Prim.Native.Nat.{ℕ}
 use mathlib.Core.Path.{_≡_, refl}
-use mathlib.Core.Bool.{Bool, true, false}
+use mathlib.Core.Bool.{true}
 use mathlib.Core.List.{List, [], _∷_, _++_}
 use lib.ListN.{take, replicate}
-use lib.IntN.{ℤ, pos, negsuc}
+use lib.IntN.{pos}
 use Rattle.numbers.specs.Constants.{zero32, one32}
-use Rattle.rules.specs.declared.Hub.{Hub}
 use Rattle.rules.specs.declared.EventType.the-variants.{Pressed, Released, Changed}
 use Rattle.rules.specs.declared.PumpAnswer.{PumpAnswer}
 use Rattle.rules.specs.declared.PumpAnswer.the-variants.{Drained, Full, Paused, Refused}
 use Rattle.rules.specs.Pump.{stopOf}
-use Rattle.rules.specs.Examples.Table.{Case, _is_, Right, event}
-use Rattle.rules.specs.Examples.Desk.{desk, south, plain, hatX, raw, press, release, move, pump, pumped, after, eventsBytes}
+use Rattle.rules.specs.Examples.Table.{_is_, Right, event}
+use Rattle.rules.specs.Examples.Desk.{desk, south, hatX, raw, press, release, move, pump, pumped, after, eventsBytes}
 
 -- ---- "Before each step, in order: queue empty and batch used up gives Drained; under 22 bytes of out left gives Full; allowance spent gives Paused"
 

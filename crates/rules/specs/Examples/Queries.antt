@@ -1,31 +1,30 @@
 -- The queries: refusals, the fallback to `to_nec`, axes before buttons, and records that are absent. Assumes nothing.
-use Prim.Native.Nat.{ℕ}
-use mathlib.Core.Path.{_≡_, refl}
-use mathlib.Core.Bool.{Bool, true, false}
-use mathlib.Core.List.{List, [], _∷_, _++_, map}
-use lib.IntN.{ℤ, pos, negsuc}
-use lib.Ieee as Ieee
-use lib.Ieee.{binary32, ofBits}
+use mathlib.Core.Path.{refl}
+use mathlib.Core.Bool.{true, false}
+use mathlib.Core.List.{[], _∷_}
 use Rattle.numbers.specs.Constants.{zero32, one32, minusOne32}
 use Rattle.rules.specs.declared.Hub.{Hub}
-use Rattle.rules.specs.declared.EventType.the-variants.{Axis}
+use Rattle.rules.specs.declared.EventType.the-variants.{Pressed, Axis}
 use Rattle.rules.specs.declared.TruthAnswer.the-variants as truthAnswer
 use Rattle.rules.specs.declared.ValueAnswer.the-variants as valueAnswer
 use Rattle.rules.specs.declared.ButtonAnswer.the-variants as buttonAnswer
 use Rattle.rules.specs.declared.AxisAnswer.the-variants as axisAnswer
 use Rattle.rules.specs.declared.NumberAnswer.the-variants as numberAnswer
 use Rattle.rules.specs.Names.{codeLeft, dpadLeft}
-use Rattle.rules.specs.Calls.{updateOf}
 use Rattle.rules.specs.Queries.{pressedByCode, pressedByName, connectedOf, valueByCode, valueByName, thresholdByCode, buttonByCode, buttonByName, axisByCode, axisByName, nameByCode, codeByName}
-use Rattle.rules.specs.Examples.Table.{Case, _is_, Right, event, half32}
-use Rattle.rules.specs.Examples.Desk.{desk, south, plain, stickX, trigger, hatX, raw, press, move, after, eventsBytes}
+use Rattle.rules.specs.Examples.Table.{_is_, Right, event, half32}
+use Rattle.rules.specs.Examples.Desk.{desk, south, plain, stickX, trigger, hatX, given}
 
--- South and the unnamed button are pressed, Left by the hat, and LeftStickX stands at -1.0; then South's code gets an axis record too, of 0.5
+-- South and the unnamed button are pressed, and Left; LeftStickX stands at -1.0; and South's code has an axis record too, of 0.5
 busy : Hub
 busy =
-    updateOf (after (desk true true) (press south 5 ++ (press plain 6 ++ (move hatX (negsuc 0) 7 ++ move stickX (negsuc 3) 8))))
-    (eventsBytes (event 9 (Axis 33 south half32) ∷ []))
-    .hub
+    given (desk true true)
+    (event 5 (Pressed 1 south)
+    ∷ event 6 (Pressed 0 plain)
+    ∷ event 7 (Pressed dpadLeft codeLeft)
+    ∷ event 8 (Axis 33 stickX minusOne32)
+    ∷ event 9 (Axis 33 south half32)
+    ∷ [])
 
 -- ---- pressed: by code it reads the button record alone; "`is_pressed` by a name that no element has falls back to `to_nec`"
 
@@ -47,7 +46,7 @@ presses :
     ∷ connectedOf busy 0 is truthAnswer.Is true
     ∷ connectedOf busy 1 is truthAnswer.Refused 6
     ∷ [])
-unfolding busy desk after raw updateOf eventsBytes pressedByCode pressedByName connectedOf
+unfolding busy desk given pressedByCode pressedByName connectedOf
 presses = refl
 
 -- ---- values: "Reading a code looks at axes first"; "A query by a code not known reads false or 0.0"
@@ -66,7 +65,7 @@ values :
     ∷ valueByName busy 0 32 is valueAnswer.Refused 16
     ∷ valueByName busy 1 32 is valueAnswer.Refused 6
     ∷ [])
-unfolding busy desk after raw updateOf eventsBytes valueByCode valueByName
+unfolding busy desk given valueByCode valueByName
 values = refl
 
 -- "Axis elements only: deadzone / (max - min) * 2"
@@ -78,7 +77,7 @@ thresholds :
     ∷ thresholdByCode busy 0 codeLeft is valueAnswer.Absent
     ∷ thresholdByCode busy 1 stickX is valueAnswer.Refused 6
     ∷ [])
-unfolding busy desk after raw updateOf eventsBytes thresholdByCode
+unfolding busy desk given thresholdByCode
 thresholds = refl
 
 -- ---- records: no fallback by name, and "an absent record needs an answer of its own"
@@ -94,7 +93,7 @@ buttons :
     ∷ buttonByName busy 0 8 is buttonAnswer.Absent
     ∷ buttonByName busy 0 33 is buttonAnswer.Refused 16
     ∷ [])
-unfolding busy desk after raw updateOf eventsBytes buttonByCode buttonByName
+unfolding busy desk given buttonByCode buttonByName
 buttons = refl
 
 axes :
@@ -107,7 +106,7 @@ axes :
     ∷ axisByName busy 0 40 is axisAnswer.Absent
     ∷ axisByName busy 0 1 is axisAnswer.Refused 16
     ∷ [])
-unfolding busy desk after raw updateOf eventsBytes axisByCode axisByName
+unfolding busy desk given axisByCode axisByName
 axes = refl
 
 -- ---- names and codes
@@ -123,5 +122,5 @@ numbers :
     ∷ codeByName busy 0 2 is numberAnswer.Absent
     ∷ codeByName busy 0 255 is numberAnswer.Refused 16
     ∷ [])
-unfolding busy desk after raw updateOf eventsBytes nameByCode codeByName
+unfolding busy desk given nameByCode codeByName
 numbers = refl

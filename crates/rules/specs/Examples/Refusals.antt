@@ -2,16 +2,13 @@
 use Prim.Native.Nat.{ℕ}
 use mathlib.Core.Path.{_≡_, refl}
 use mathlib.Core.Bool.{Bool, true, false}
-use mathlib.Core.List.{List, [], _∷_, map}
+use mathlib.Core.List.{[], _∷_, map}
 use lib.IntN.{ℤ, pos, negsuc}
 use lib.Ieee as Ieee
 use lib.Ieee.{Float, nan, binary32, ofBits}
-use Rattle.numbers.specs.Constants.{zero32, one32, two32, minusOne32}
-use Rattle.rules.specs.declared.RawRecord.{RawRecord}
-use Rattle.rules.specs.declared.Looked.{Looked}
-use Rattle.rules.specs.declared.EventForm.{EventForm}
+use Rattle.numbers.specs.Constants.{zero32, one32, two32}
 use Rattle.rules.specs.Refusals.{thresholdsRefusal, standsOf, valueFits, timeFits, elementRefusal, recordRefusal, formRefusal, insertRefusal, pumpRefusal, repeatRefusal, buttonQueryRefusal, axisQueryRefusal, nameQueryRefusal}
-use Rattle.rules.specs.Examples.Table.{Case, _is_, Right, half32, threeQuarters32}
+use Rattle.rules.specs.Examples.Table.{_is_, Right, half32, threeQuarters32}
 
 -- ---- 1: "pressed <= released, either outside 0..1, or NaN"
 

@@ -2,19 +2,17 @@
 use Prim.Native.Nat.{ℕ}
 use mathlib.Core.Path.{_≡_, refl}
 use mathlib.Core.Bool.{Bool, true, false}
-use mathlib.Core.List.{List, [], _∷_, _++_, map}
-use lib.IntN.{ℤ, pos, negsuc}
+use mathlib.Core.List.{[], _∷_}
+use lib.IntN.{negsuc}
 use Rattle.numbers.specs.Constants.{one32}
 use Rattle.rules.specs.declared.Hub.{Hub}
-use Rattle.rules.specs.declared.ButtonData.{ButtonData}
-use Rattle.rules.specs.declared.EventType.the-variants.{Repeated}
-use Rattle.rules.specs.declared.RepeatAnswer.{RepeatAnswer}
+use Rattle.rules.specs.declared.EventType.the-variants.{Pressed, Released, Repeated}
 use Rattle.rules.specs.declared.RepeatAnswer.the-variants.{Due, Quiet, Refused}
 use Rattle.rules.specs.Names.{codeLeft}
-use Rattle.rules.specs.Calls.{updateOf, renameOf}
+use Rattle.rules.specs.Calls.{renameOf}
 use Rattle.rules.specs.Repeat.{dueOf, repeatOf}
-use Rattle.rules.specs.Examples.Table.{Case, _is_, Right, event}
-use Rattle.rules.specs.Examples.Desk.{desk, twoPads, south, plain, hatX, rawOf, raw, press, release, move, disconnect, after, eventsBytes}
+use Rattle.rules.specs.Examples.Table.{_is_, Right, event}
+use Rattle.rules.specs.Examples.Desk.{desk, twoPads, south, plain, hatX, raw, move, disconnect, after, given}
 
 -- ---- when a record is due
 
@@ -42,11 +40,11 @@ dues = refl
 
 -- South is held since 0
 held : Hub
-held = after (desk true true) (press south 0)
+held = given (desk true true) (event 0 (Pressed 1 south) ∷ [])
 
 -- its repeat, handed back through `update`
 repeated : Hub
-repeated = updateOf held (eventsBytes (event 500 (Repeated 1 south) ∷ [])) .hub
+repeated = given held (event 500 (Repeated 1 south) ∷ [])
 
 -- "The time is its stamp plus after or every"; "held since 0, after 500, every 30 .. now 499: none"
 answers :
@@ -60,12 +58,12 @@ answers :
     ∷ repeatOf held 500 0 1000 is Refused 15
     ∷ repeatOf held 500 30 0x4000000000000000 is Refused 12
     ∷ [])
-unfolding held repeated after desk raw updateOf eventsBytes repeatOf
+unfolding held repeated given desk repeatOf
 answers = refl
 
 -- a button that was released is not held
-released : repeatOf (after held (release south 5)) 500 30 1000 ≡ Quiet
-unfolding held after desk raw repeatOf
+released : repeatOf (given held (event 5 (Released 1 south) ∷ [])) 500 30 1000 ≡ Quiet
+unfolding held given desk repeatOf
 released = refl
 
 -- ---- the name: "the code's present button name, else Unknown, so for an unlisted direction"
@@ -74,18 +72,20 @@ released = refl
 names :
     Right (
     repeatOf (after (desk true true) (move hatX (negsuc 0) 0)) 500 30 500 is Due (event 500 (Repeated 0 codeLeft))
-    ∷ repeatOf (after (desk true true) (press plain 0)) 500 30 500 is Due (event 500 (Repeated 0 plain))
+    ∷ repeatOf (given (desk true true) (event 0 (Pressed 0 plain) ∷ [])) 500 30 500 is Due (event 500 (Repeated 0 plain))
     ∷ repeatOf (renameOf held 0 (2 ∷ 255 ∷ 255 ∷ 255 ∷ 255 ∷ 255 ∷ []) .hub) 500 30 500 is Due (event 500 (Repeated 2 south))
     ∷ repeatOf (renameOf held 0 (33 ∷ 255 ∷ 255 ∷ 255 ∷ 255 ∷ 255 ∷ []) .hub) 500 30 500 is Due (event 500 (Repeated 0 south))
     ∷ [])
-unfolding held after desk raw renameOf repeatOf
+unfolding held given after desk raw renameOf repeatOf
 names = refl
 
 -- ---- the order: "Connected pads by number, codes rising; the first due button"
 
 -- pad 1 holds South since 0, and pad 0 its two buttons since 100, the second first
 both : Hub
-both = after twoPads (rawOf 1 1 south (pos 0) 0 ++ (press plain 100 ++ press south 100))
+both =
+    given twoPads
+    (record { pad = 1; time = 0; event = Pressed 1 south } ∷ event 100 (Pressed 0 plain) ∷ event 100 (Pressed 1 south) ∷ [])
 
 order :
     Right (
@@ -93,5 +93,5 @@ order :
     ∷ repeatOf both 500 30 600 is Due (event 600 (Repeated 1 south))
     ∷ repeatOf (after both (disconnect 200)) 500 30 600 is Due (record { pad = 1; time = 500; event = Repeated 1 south })
     ∷ [])
-unfolding both after twoPads rawOf raw repeatOf
+unfolding both given after twoPads raw repeatOf
 order = refl

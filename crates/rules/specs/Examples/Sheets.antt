@@ -1,15 +1,14 @@
 -- Sheets and rename lists: a good sheet byte by byte, every rule of an element at its limit and one past it, and the order 3, 4, 5. Assumes nothing.
 use Prim.Native.Nat.{ℕ, zero, suc, _+_}
 use mathlib.Core.Path.{_≡_, refl}
-use mathlib.Core.Bool.{Bool, true, false}
-use mathlib.Core.List.{List, [], _∷_, _++_, map}
+use mathlib.Core.Bool.{true, false}
+use mathlib.Core.List.{List, [], _∷_, _++_}
 use lib.ListN.{set, take}
 use lib.IntN.{ℤ, pos, negsuc}
 use Rattle.rules.specs.declared.SheetElement.{SheetElement}
-use Rattle.rules.specs.declared.SheetRead.{SheetRead}
 use Rattle.rules.specs.declared.SheetRead.the-variants as sheetRead
-use Rattle.rules.specs.Sheets.{sheetRefusal, readSheet, elementOf, sheetBytes, renameListRefusal}
-use Rattle.rules.specs.Examples.Table.{Case, _is_, Right, button, axis}
+use Rattle.rules.specs.Sheets.{sheetFits, sheetRefusal, readSheet, elementOf, sheetBytes, renameListRefusal}
+use Rattle.rules.specs.Examples.Table.{_is_, Right, button, axis}
 
 -- ---- the bytes: "count, version, hats 0..15, n, then n elements: code 4, kind 1, name 1, min 4, max 4, deadzone 4"
 
@@ -44,7 +43,6 @@ sizes :
     Right (
     sheetRefusal hatBytes is 0
     ∷ sheetRefusal (sheetBytes 0 []) is 0
-    ∷ sheetRefusal (sheetBytes 0 (many 48 0)) is 0
     ∷ sheetRefusal (sheetBytes 0 (many 49 0)) is 3
     ∷ sheetRefusal [] is 3
     ∷ sheetRefusal (0 ∷ []) is 3
@@ -60,6 +58,11 @@ sizes :
     ∷ [])
 unfolding sheetRefusal sheetBytes hatBytes many
 sizes = refl
+
+-- 48 elements fit
+most : Right (sheetFits (sheetBytes 0 (many 48 0)) is true ∷ sheetFits (sheetBytes 0 (many 49 0)) is false ∷ [])
+unfolding sheetFits sheetBytes many
+most = refl
 
 -- ---- 4: "hats over 15 or an element breaks a rule"
 

@@ -1,27 +1,25 @@
 -- Steps, as pumps of a few records: what is taken, filtered, queued and stored; Connected and Disconnected. Assumes nothing.
-use Prim.Native.Nat.{ℕ}
 use mathlib.Core.Path.{_≡_, refl}
 use mathlib.Core.Bool.{Bool, true, false}
-use mathlib.Core.List.{List, [], _∷_, _++_, map}
+use mathlib.Core.List.{[], _∷_, _++_}
 use lib.ListN.{getD}
-use lib.IntN.{ℤ, pos, negsuc}
-use lib.Ieee.{Float, binary32, ofBits}
+use lib.IntN.{pos, negsuc}
+use lib.Ieee.{binary32, ofBits}
 use Rattle.numbers.specs.Constants.{zero32, one32, minusOne32}
 use Rattle.rules.specs.declared.Hub.{Hub}
-use Rattle.rules.specs.declared.EventType.the-variants.{Pressed, Released, Changed, Axis, Connected, Disconnected, Dropped}
+use Rattle.rules.specs.declared.EventType.the-variants.{Pressed, Changed, Axis, Disconnected, Dropped}
 use Rattle.rules.specs.declared.PumpAnswer.the-variants.{Drained}
-use Rattle.rules.specs.declared.TruthAnswer.{TruthAnswer}
 use Rattle.rules.specs.declared.TruthAnswer.the-variants as truthAnswer
 use Rattle.rules.specs.declared.ButtonAnswer.the-variants as buttonAnswer
 use Rattle.rules.specs.declared.AxisAnswer.the-variants as axisAnswer
-use Rattle.rules.specs.Names.{codeLeft, codeRight, dpadLeft, dpadRight, dpadX}
+use Rattle.rules.specs.Names.{codeRight, dpadRight, dpadX}
 use Rattle.rules.specs.Sheets.{sheetBytes}
 use Rattle.rules.specs.Calls.{registerOf, insertOf, incOf, renameOf}
 use Rattle.rules.specs.Hub.{convertsNow, hatsNow}
 use Rattle.rules.specs.Queries.{pressedByCode, connectedOf, buttonByCode, axisByCode, nameByCode}
 use Rattle.rules.specs.declared.NumberAnswer.the-variants as numberAnswer
-use Rattle.rules.specs.Examples.Table.{Case, _is_, Right, button, axis, event, half32, threeQuarters32}
-use Rattle.rules.specs.Examples.Desk.{bare, desk, twoPads, rawOf, south, plain, stickX, stickY, trigger, hatX, raw, press, release, move, connect, disconnect, after, tells, told, eventsBytes}
+use Rattle.rules.specs.Examples.Table.{_is_, Right, button, axis, event, half32, threeQuarters32}
+use Rattle.rules.specs.Examples.Desk.{bare, desk, twoPads, south, plain, stickX, stickY, trigger, hatX, raw, press, move, connect, disconnect, after, given, tells, told, eventsBytes}
 
 -- ---- what is taken and queued
 
@@ -66,6 +64,22 @@ cleared :
 unfolding tells told desk raw
 cleared = refl
 
+-- with updates off the state still has LeftStickY's 0.25, and the flag alone ends the clearing events
+cleared-once :
+    tells (given (desk true false) (event 1 (Axis 34 stickY (ofBits binary32 0x3e800000)) ∷ []))
+    (move stickY (pos 4) 5 ++ (move stickX (pos 1) 6 ++ move stickX (pos 1) 7))
+    2
+    ≡ told (Drained 63 2 4) (event 5 (Axis 34 stickY one32) ∷ event 6 (Axis 34 stickY zero32) ∷ [])
+unfolding given tells told desk raw
+cleared-once = refl
+
+-- a button element named DPadX gives that axis 1.0, which a converting pad makes Right
+hat-button :
+    tells (registerOf (bare true true) (sheetBytes 0 (button south 39 ∷ [])) .hub) (press south 5) 2
+    ≡ told (Drained 21 2 2) (event 5 (Pressed dpadRight codeRight) ∷ event 5 (Changed dpadRight codeRight one32) ∷ [])
+unfolding bare registerOf sheetBytes tells told raw
+hat-button = refl
+
 -- a record keeps the counter of its event's step, and its time
 counted : buttonByCode (after (incOf (incOf (desk true true))) (press south 7)) 0 south
     ≡ buttonAnswer.Data (record { value = one32; stamp = 7; counter = 2; pressed = true; repeating = false })
@@ -88,10 +102,15 @@ inserted-dropped :
 unfolding inserted tells told desk insertOf eventsBytes
 inserted-dropped = refl
 
+-- Disconnected that was inserted does not disconnect: the flag follows taken records
+inserted-disconnected : connectedOf (after (insertOf (desk true true) (eventsBytes (event 7 Disconnected ∷ [])) .hub) []) 0 ≡ truthAnswer.Is true
+unfolding after desk insertOf eventsBytes connectedOf
+inserted-disconnected = refl
+
 -- ---- Disconnected: "Disconnected clears nothing"; records of a disconnected pad are served
 
 parted : Hub
-parted = after (desk true true) (press south 5 ++ disconnect 6)
+parted = after (given (desk true true) (event 5 (Pressed 1 south) ∷ [])) (disconnect 6)
 
 parting :
     tells (desk true true) (disconnect 6 ++ press plain 7) 3
@@ -101,45 +120,42 @@ parting = refl
 
 -- "connected but from a taken Disconnected record to the next Connected"
 parted-reads : Right (pressedByCode parted 0 south is truthAnswer.Is true ∷ connectedOf parted 0 is truthAnswer.Is false ∷ [])
-unfolding parted after desk raw pressedByCode connectedOf
+unfolding parted given after desk raw pressedByCode connectedOf
 parted-reads = refl
 
 -- ---- Connected: "fresh state and deadzone flags"
 
--- South pressed and LeftStickX out of the dead zone, then Connected
-joined : Bool → Hub
-joined updates = after (desk true updates) (press south 5 ++ (move stickX (pos 4) 6 ++ (disconnect 7 ++ connect 8)))
+-- South is pressed and LeftStickX has a value, then Connected
+joined : Hub
+joined = after (given (desk true true) (event 5 (Pressed 1 south) ∷ event 6 (Axis 33 stickX one32) ∷ [])) (disconnect 7 ++ connect 8)
 
-joined-reads :
-    Right (pressedByCode (joined true) 0 south is truthAnswer.Is false ∷ connectedOf (joined true) 0 is truthAnswer.Is true ∷ [])
-unfolding joined after desk raw pressedByCode connectedOf
+joined-reads : Right (pressedByCode joined 0 south is truthAnswer.Is false ∷ connectedOf joined 0 is truthAnswer.Is true ∷ [])
+unfolding joined given after desk raw pressedByCode connectedOf
 joined-reads = refl
 
-joined-button : buttonByCode (joined true) 0 south ≡ buttonAnswer.Absent
-unfolding joined after desk raw buttonByCode
+joined-button : buttonByCode joined 0 south ≡ buttonAnswer.Absent
+unfolding joined given after desk raw buttonByCode
 joined-button = refl
 
-joined-axis : axisByCode (joined true) 0 stickX ≡ axisAnswer.Absent
-unfolding joined after desk raw axisByCode
+joined-axis : axisByCode joined 0 stickX ≡ axisAnswer.Absent
+unfolding joined given after desk raw axisByCode
 joined-axis = refl
 
 -- the flag of LeftStickX is up before, and down after, also with updates off
 flags :
     Right (
     getD (after (desk true false) (move stickX (pos 4) 6) .flags) 2 false is true
-    ∷ getD (joined true .flags) 2 true is false
-    ∷ getD (joined false .flags) 2 true is false
+    ∷ getD (after (desk true false) (move stickX (pos 4) 6 ++ connect 7) .flags) 2 true is false
     ∷ [])
-unfolding joined after desk raw
+unfolding after desk raw
 flags = refl
 
 -- another pad's state stays
-other-pad :
-    Right (
-    pressedByCode (after twoPads (rawOf 1 1 south (pos 0) 5 ++ (press south 6 ++ connect 7))) 1 south is truthAnswer.Is true
-    ∷ pressedByCode (after twoPads (rawOf 1 1 south (pos 0) 5 ++ (press south 6 ++ connect 7))) 0 south is truthAnswer.Is false
-    ∷ [])
-unfolding twoPads after rawOf raw pressedByCode
+pressedBoth : Hub
+pressedBoth = after (given twoPads (record { pad = 1; time = 5; event = Pressed 1 south } ∷ event 5 (Pressed 1 south) ∷ [])) (connect 7)
+
+other-pad : Right (pressedByCode pressedBoth 1 south is truthAnswer.Is true ∷ pressedByCode pressedBoth 0 south is truthAnswer.Is false ∷ [])
+unfolding pressedBoth given twoPads after raw pressedByCode
 other-pad = refl
 
 -- ---- "and the names and hats of the registered sheet (000 loads the mapping afresh, so a rename is lost)"

@@ -1,7 +1,5 @@
 -- `sheets::axis_fits` meets its contract: the tests are the definition's, in its order. Assumes nothing.
 use borrow.Author.Needs.{needs}
-use lib.Signed.{mag}
-use Prim.Native.Nat.{_<_}
 use mathlib.Core.Path.{_≡_, sym, _∙_, ap, ap₂}
 use lib.Signed.{ltZ}
 use borrow.Author.Tests.{not-true, not-false}

@@ -1,6 +1,6 @@
 -- `sheets::element_fits` meets its contract: the tests are the definition's, in its order. Assumes nothing.
 use borrow.Author.Needs.{needs}
-use mathlib.Core.Path.{_≡_, sym, _∙_}
+use mathlib.Core.Path.{sym, _∙_}
 use borrow.Author.Tests.{not-true, not-false}
 use Rattle.sheets.proofs.Elements.{unnamed, button-is, axis-is, neither}
 use Rattle.sheets.proofs.element_fits.Statement.{statement}

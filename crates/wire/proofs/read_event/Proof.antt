@@ -1,8 +1,8 @@
 -- `wire::read_event` meets its contract: `Whole` says what each test gives. Assumes nothing.
 use borrow.Author.Needs.{needs}
-use mathlib.Core.Path.{_≡_, refl, sym, _∙_}
+use mathlib.Core.Path.{sym, _∙_}
 use borrow.Author.Tests.{not-true, not-false}
-use Rattle.wire.proofs.Whole.{event-long, event-shut, event-unfit, event-good}
+use Rattle.wire.specs.Whole.{event-long, event-shut, event-unfit, event-good}
 use Rattle.wire.proofs.read_event.Statement.{statement}
 use Rattle.wire.proofs.read_event.Tie as tie
 

@@ -1,12 +1,12 @@
 -- `wire::read_record` meets its contract: `Whole` says what each test gives. Assumes nothing.
 use borrow.Author.Needs.{needs}
-use mathlib.Core.Path.{_≡_, refl, sym, _∙_}
+use mathlib.Core.Path.{sym, _∙_}
 use Prim.Native.Nat.{_-_, _≤_, _<_}
 use native.Mathlib.Omega.{arith}
 use lib.ListN.{length}
 use borrow.Author.Tests.{not-true, not-false}
 use mir.Facts.{toZ-ofZ}
-use Rattle.wire.proofs.Whole.{record-short, record-shut, record-unfit, record-good}
+use Rattle.wire.specs.Whole.{record-short, record-shut, record-unfit, record-good}
 use Rattle.wire.proofs.read_record.Statement.{statement}
 use Rattle.wire.proofs.read_record.Tie as tie
 

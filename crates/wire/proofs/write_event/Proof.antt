@@ -6,7 +6,6 @@ use native.Mathlib.Omega.{arith}
 use lib.ListN.{length, drop}
 use lib.Seq.{paste}
 use borrow.Author.Needs.{needs}
-use Rattle.rules.specs.declared.EventForm.{EventForm}
 use Rattle.rules.specs.Forms.{formBytes}
 use Rattle.rules.specs.Events.{eventBytes}
 use Rattle.wire.specs.Bytes.{written-is}

@@ -1,0 +1,4 @@
+pub mod Good
+pub mod Rows
+pub mod Renames
+pub mod Order

@@ -1,0 +1,6 @@
+pub mod Waiting
+pub mod Weight
+pub mod Queue
+pub mod Reach
+pub mod Unique
+pub mod Machines

@@ -1,0 +1,23 @@
+-- `queries::axis_at` meets its contract: what the calls ensure, put together. Assumes nothing.
+use borrow.Author.Needs.{needs}
+use Rattle.queries.proofs.axis_at.Statement.{statement}
+use Rattle.queries.proofs.axis_at.Tie as tie
+
+bool-at-requires : tie.Need-bool-at-requires
+bool-at-requires c κs = search needs
+
+mul-a : tie.Need-mul-a
+mul-a c = search needs
+
+element-copy-out-a : tie.Need-element-copy-out-a
+element-copy-out-a c = search needs
+
+axis-or-absent-requires : tie.Need-axis-or-absent-requires
+axis-or-absent-requires c κs = search needs
+
+returns : tie.Need-returns
+returns c = rw (c .axis-or-absent .ensures, c .before .before .bool-at .ensures)
+
+pub axis-at-spec : {M : Type 1} → statement M
+axis-at-spec =
+    tie.close (tie.spec bool-at-requires mul-a element-copy-out-a axis-or-absent-requires returns)

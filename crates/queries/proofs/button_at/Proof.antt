@@ -1,0 +1,24 @@
+-- `queries::button_at` meets its contract: what the calls ensure, put together. Assumes nothing.
+use borrow.Author.Needs.{needs}
+use Rattle.queries.proofs.button_at.Statement.{statement}
+use Rattle.queries.proofs.button_at.Tie as tie
+
+bool-at-requires : tie.Need-bool-at-requires
+bool-at-requires c κs = search needs
+
+mul-b : tie.Need-mul-b
+mul-b c = search needs
+
+element-copy-out-b : tie.Need-element-copy-out-b
+element-copy-out-b c = search needs
+
+button-or-absent-requires : tie.Need-button-or-absent-requires
+button-or-absent-requires c κs = search needs
+
+returns : tie.Need-returns
+returns c = rw (c .button-or-absent .ensures, c .before .before .bool-at .ensures)
+
+pub button-at-spec : {M : Type 1} → statement M
+button-at-spec =
+    tie.close
+    (tie.spec bool-at-requires mul-b element-copy-out-b button-or-absent-requires returns)
