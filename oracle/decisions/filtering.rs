@@ -12,6 +12,10 @@ use reading::names::{self, DIRECTIONS};
 use reading::sheet::Sheet;
 
 /// What the kinds 1 to 5 of cases play: all three filters, one of them, or none.
+const ALL: u8 = 1;
+const DPAD: u8 = 2;
+const JITTER: u8 = 3;
+const DEADZONE: u8 = 4;
 const WORDS: [&str; 6] = ["", "all", "dpad", "jitter", "deadzone", "off"];
 
 /// As the type of the same name in the crate `rules`.
@@ -128,9 +132,9 @@ fn play(kind: u8, hub: &mut Hub, given: &Event, list: &mut List) {
     let gilrs = &mut hub.gilrs;
     let out = match kind {
         1 => event.filter_ev(&axis_dpad_to_button, gilrs).filter_ev(&Jitter::new(), gilrs).filter_ev(&deadzone, gilrs),
-        2 => event.filter_ev(&axis_dpad_to_button, gilrs),
-        3 => event.filter_ev(&Jitter::new(), gilrs),
-        4 => event.filter_ev(&deadzone, gilrs),
+        DPAD => event.filter_ev(&axis_dpad_to_button, gilrs),
+        JITTER => event.filter_ev(&Jitter::new(), gilrs),
+        DEADZONE => event.filter_ev(&deadzone, gilrs),
         _ => event,
     };
     let mut out = from_crate(&out.expect("an event"));
@@ -168,49 +172,45 @@ fn case(kind: u8, seen: &View, given: &Event, out: &Event, queued: &[Event], aft
 
 /// The arm of the decision that the case met, in words.
 fn arm(kind: u8, seen: &View, given: &Event, out: &Event, queued: &[Event]) -> String {
-    let hat = given.name == names::DPAD_X || given.name == names::DPAD_Y;
-    let on_hat = given.kind == event::AXIS && hat && seen.converts && kind <= 2;
+    let word = event::WORDS[usize::from(given.kind)].to_lowercase();
+    let of_axis = given.kind == event::AXIS;
+    let hat = of_axis && (given.name == names::DPAD_X || given.name == names::DPAD_Y);
     let value = f32::from_bits(given.bits);
-    let place = if value == 1.0 {
-        "up"
-    } else if value == -1.0 {
-        "down"
-    } else {
-        "rests"
-    };
-    let word = event::WORDS[usize::from(out.kind)].to_lowercase();
-    if on_hat {
-        return format!("hat {} held {}{}: {}", place, u8::from(seen.positive), u8::from(seen.negative), word);
+    if hat && seen.converts && (kind == ALL || kind == DPAD) {
+        let sent = event::WORDS[usize::from(out.kind)].to_lowercase();
+        return format!("hat {} held {}{}: {}", end(value), u8::from(seen.positive), u8::from(seen.negative), sent);
     }
-    let given_word = event::WORDS[usize::from(given.kind)].to_lowercase();
     if !given.has_value() {
-        return format!("{}: passes", given_word);
+        return format!("{}: passes", word);
     }
-    let mut text = given_word;
-    if given.kind == event::AXIS && kind == 2 {
-        text += if hat { " of a hat" } else { "" };
+    let of_hat = if hat && kind == DPAD { " of a hat" } else { "" };
+    let beside = if of_axis && (kind == ALL || kind == JITTER) { stored(seen, value) } else { "" };
+    let zoned = if kind == ALL || kind == DEADZONE { zone(seen, !queued.is_empty()) } else { "" };
+    format!("{}{}{}{}: {}", word, of_hat, beside, zoned, sent(out))
+}
+
+fn end(value: f32) -> &'static str {
+    match (value == 1.0, value == -1.0) {
+        (true, _) => "up",
+        (_, true) => "down",
+        _ => "rests",
     }
-    if given.kind == event::AXIS && (kind == 1 || kind == 3) {
-        text += if seen.stored.is_none() {
-            ", no record"
-        } else if value == 0.0 {
-            ", zero"
-        } else {
-            ", record"
-        };
+}
+
+fn stored(seen: &View, value: f32) -> &'static str {
+    match (seen.stored, value == 0.0) {
+        (None, _) => ", no record",
+        (_, true) => ", zero",
+        _ => ", record",
     }
-    if kind == 1 || kind == 4 {
-        text += zone(seen, !queued.is_empty());
+}
+
+fn sent(out: &Event) -> &'static str {
+    match (out.kind, f32::from_bits(out.bits) == 0.0) {
+        (event::DROPPED, _) => "dropped",
+        (_, true) => "sends 0",
+        _ => "sends a value",
     }
-    let sent = f32::from_bits(out.bits);
-    let end = if out.kind == event::DROPPED {
-        "dropped"
-    } else if sent == 0.0 {
-        "sends 0"
-    } else {
-        "sends a value"
-    };
-    format!("{}: {}", text, end)
 }
 
 /// Whether there is a threshold and a partner, and which test of the clearing, if any, spared the partner.

@@ -1,24 +1,20 @@
-// The calls of document 01 between two pumps: an event given to the state or to the queue, the counter, and Repeat. Each takes any hub and any bytes,
+// The calls of document 01 that take an event's bytes: `update` gives it to the state, `insert_event` to the queue. Each takes any hub and any bytes,
 // and answers what its definition in the law book says; a refusal leaves the hub as it was.
 ghost use mathlib.Core.Path.{_≡_};
 ghost use mathlib.Core.Bool.{true};
 ghost use Prim.Native.Nat.{_≤_};
 ghost use Rattle.rules.specs.Names.{nowhere};
 ghost use Rattle.rules.specs.Step.{updatedAt};
-ghost use Rattle.rules.specs.Calls.{updateOf, insertedAt, insertOf, incOf, resetOf};
-ghost use Rattle.rules.specs.Repeat.{repeatOf};
-ghost use Rattle.calls.specs.Forms.{updateForm, insertForm};
+ghost use Rattle.rules.specs.Calls.{updateOf, insertedAt, insertOf};
+ghost use Rattle.calls.specs.Judged.{updateForm, insertForm};
 use rules::Answer;
 use rules::Answered;
 use rules::Event;
 use rules::EventForm;
 use rules::EventRead;
 use rules::Hub;
-use rules::RepeatAnswer;
 
 const MALFORMED: u8 = 8;
-
-const PLACES_PER_PAD: usize = 52;
 
 // ---- update: 8, 6, 9, 11, 12
 
@@ -122,53 +118,4 @@ pub fn insert_event(h: Hub, event: &[u8]) -> Answered
             answer: Answer::Refused(MALFORMED),
         },
     }
-}
-
-// ---- the counter: "The counter goes from 2^62-1 to 0"
-
-pub fn inc(h: Hub) -> Hub
-    ensures { λ r. ⌜ r ≡ incOf h ⌝ }
-{
-    let mut g = h;
-    let next = state::next_counter(g.counter);
-    g.counter = next;
-    g
-}
-
-pub fn counter(h: Hub) -> u64
-    ensures { λ r. ⌜ r ≡ h .counter ⌝ }
-{
-    h.counter
-}
-
-pub fn reset_counter(h: Hub) -> Hub
-    ensures { λ r. ⌜ r ≡ resetOf h ⌝ }
-{
-    let mut g = h;
-    g.counter = 0;
-    g
-}
-
-// ---- repeat: 15, 12
-
-// The first due button of the connected pads, with the clock as input: 000's `Repeat`.
-pub fn repeat(h: Hub, after: u64, every: u64, clock: u64) -> RepeatAnswer
-    ensures { λ r. ⌜ r ≡ repeatOf h after every clock ⌝ }
-{
-    let refusal = refusals::repeat_refusal(after, every, clock);
-    if refusal != 0 {
-        return RepeatAnswer::Refused(refusal);
-    }
-    let buttons = h.buttons;
-    let place = repeat::first_due(&h.connected, &h.touched, buttons, after, every, clock);
-    if pad::NOWHERE <= place {
-        return RepeatAnswer::Quiet;
-    }
-    let p = (place / PLACES_PER_PAD) as u8;
-    let name = gather::present_name(&h.names, &h.renames, &h.renamed, p, place);
-    let code = pad::code_at(&h.codes, place);
-    let touched = pad::bool_at(&h.touched, place);
-    let b = h.buttons[place];
-    let e = repeat::repeated(p, name, code, b, touched, after, every, clock);
-    RepeatAnswer::Due(e)
 }

@@ -1,6 +1,5 @@
 -- `queries::axis_or_absent` meets its contract: by the number. Assumes nothing.
 use Rattle.queries.specs.Refused.{axis-refused}
-use borrow.Author.Needs.{needs}
 use Rattle.queries.proofs.axis_or_absent.Statement.{statement}
 use Rattle.queries.proofs.axis_or_absent.Tie as tie
 

@@ -1,6 +1,5 @@
 -- `queries::number` meets its contract: by the number. Assumes nothing.
 use Rattle.queries.specs.Refused.{number-refused}
-use borrow.Author.Needs.{needs}
 use Rattle.queries.proofs.number.Statement.{statement}
 use Rattle.queries.proofs.number.Tie as tie
 

@@ -1,6 +1,5 @@
 -- `queries::value_or_absent` meets its contract: by the number. Assumes nothing.
 use Rattle.queries.specs.Refused.{value-refused}
-use borrow.Author.Needs.{needs}
 use Rattle.queries.proofs.value_or_absent.Statement.{statement}
 use Rattle.queries.proofs.value_or_absent.Tie as tie
 

@@ -16,7 +16,7 @@ use Rattle.rules.specs.Names.{codeUp, codeRight, dpadRight}
 use Rattle.rules.specs.Sheets.{sheetBytes}
 use Rattle.rules.specs.Hub.{placeIn, touchedAt, movedAt, axisAt}
 use Rattle.rules.specs.Places.{placeOf}
-use Rattle.rules.specs.Calls.{newOf, idleHub, registerOf, renameOf, updateOf, insertOf, incOf, resetOf}
+use Rattle.rules.specs.Calls.{newOf, registerOf, renameOf, updateOf, insertOf, incOf, resetOf}
 use Rattle.rules.specs.Examples.Table.{_is_, Right, button, event, half32, threeQuarters32}
 use Rattle.rules.specs.Examples.Desk.{bare, desk, south, stickX, hatX, raw, press, disconnect, pump, after, tells, told, eventsBytes}
 
@@ -27,7 +27,9 @@ new-answers :
 unfolding newOf Ieee.ofBits Ieee.lt Ieee.le
 new-answers = refl
 
-new-refused : newOf half32 half32 true true true .hub ≡ idleHub
+-- a refused `new` hands back a hub that filters and updates nothing
+new-refused :
+    Right (newOf half32 half32 true true true .hub .filters is false ∷ newOf half32 half32 true true true .hub .updates is false ∷ [])
 unfolding newOf Ieee.ofBits Ieee.lt Ieee.le
 new-refused = refl
 

@@ -18,7 +18,7 @@ use Rattle.rules.specs.Examples.Desk.{desk, raw, move, after, stickX, st
 
 -- ---- a pad's six deadzone flags; past the 24 for an axis that has none, and for a pad that is none
 
-flags : Right (flagPlace 0 39 is 0 ∷ flagPlace 1 33 is 8 ∷ flagPlace 3 37 is 23 ∷ flagPlace 0 35 is 24 ∷ flagPlace 0 19 is 24 ∷ flagPlace 4 39 is 24 ∷ [])
+flags : Right (flagPlace 0 39 is 0 ∷ flagPlace 1 33 is 8 ∷ flagPlace 3 37 is 23 ∷ flagPlace 0 35 is 24 ∷ flagPlace 0 19 is 24 ∷ flagPlace 4 33 is 24 ∷ [])
 unfolding flagPlace
 flags = refl
 

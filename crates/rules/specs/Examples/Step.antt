@@ -2,7 +2,7 @@
 use mathlib.Core.Path.{_≡_, refl}
 use mathlib.Core.Bool.{Bool, true, false}
 use mathlib.Core.List.{[], _∷_, _++_}
-use lib.ListN.{getD}
+use lib.ListN.{getD, replicate}
 use lib.IntN.{pos, negsuc}
 use lib.Ieee.{binary32, ofBits}
 use Rattle.numbers.specs.Constants.{zero32, one32, minusOne32}
@@ -16,10 +16,11 @@ use Rattle.rules.specs.Names.{codeRight, dpadRight, dpadX}
 use Rattle.rules.specs.Sheets.{sheetBytes}
 use Rattle.rules.specs.Calls.{registerOf, insertOf, incOf, renameOf}
 use Rattle.rules.specs.Hub.{convertsNow, hatsNow}
+use Rattle.rules.specs.Step.{headAfter}
 use Rattle.rules.specs.Queries.{pressedByCode, connectedOf, buttonByCode, axisByCode, nameByCode}
 use Rattle.rules.specs.declared.NumberAnswer.the-variants as numberAnswer
 use Rattle.rules.specs.Examples.Table.{_is_, Right, button, axis, event, half32, threeQuarters32}
-use Rattle.rules.specs.Examples.Desk.{bare, desk, twoPads, south, plain, stickX, stickY, trigger, hatX, raw, press, move, connect, disconnect, after, given, tells, told, eventsBytes}
+use Rattle.rules.specs.Examples.Desk.{bare, desk, twoPads, south, plain, stickX, stickY, trigger, hatX, raw, press, move, connect, disconnect, pump, after, given, tells, told, eventsBytes}
 
 -- ---- what is taken and queued
 
@@ -90,6 +91,16 @@ counted = refl
 unstored : buttonByCode (after (desk true false) (press south 7)) 0 south ≡ buttonAnswer.Absent
 unfolding after desk raw buttonByCode
 unstored = refl
+
+-- while something waits, no record is looked at: Disconnected stands behind South's two events, and two steps do not reach it
+not-looked-at : connectedOf (pump (desk true true) (press south 5 ++ disconnect 6) 0 (replicate 44 0) 2 .pumped .hub) 0 ≡ truthAnswer.Is true
+unfolding pump desk raw connectedOf
+not-looked-at = refl
+
+-- the ring's front goes on by one where something waited, around the end too
+heads : Right (headAfter 5 0 is 5 ∷ headAfter 5 1 is 6 ∷ headAfter 63 2 is 0 ∷ [])
+unfolding headAfter
+heads = refl
 
 -- ---- inserted events
 

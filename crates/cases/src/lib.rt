@@ -1,0 +1,101 @@
+// A case of the stored list of decisions: 26 words of four bytes, the highest first, with events of four words in it.
+ghost use Prim.Native.Nat.{_+_, _≤_, _<_};
+use rules::Event;
+use rules::Slot;
+
+pub const SIZE: usize = 104;
+
+// the words of the event given, of the one that came out, and of those queued behind it
+pub const GIVEN: usize = 6;
+
+pub const OUT: usize = 10;
+
+pub const QUEUED: usize = 14;
+
+// ---- words and marks
+
+pub fn word(case: &[u8; 104], n: usize) -> u32
+    requires { ⌜ n < 26 ⌝ }
+{
+    wire::read4(case, n * 4)
+}
+
+pub fn long(case: &[u8; 104], n: usize) -> u64
+    requires { ⌜ n < 26 ⌝ }
+{
+    let w = word(case, n);
+    w as u64
+}
+
+pub fn value(case: &[u8; 104], n: usize) -> f32
+    requires { ⌜ n < 26 ⌝ }
+{
+    binary32::of_bits(word(case, n))
+}
+
+// a word as a signed number
+pub fn whole(case: &[u8; 104], n: usize) -> i32
+    requires { ⌜ n < 26 ⌝ }
+{
+    wire::signed4(case, n * 4)
+}
+
+// the mark of this weight in a byte of marks
+pub fn mark(marks: u8, weight: u8) -> bool
+    requires { ⌜ 0 < weight ⌝ }
+{
+    marks / weight % 2 == 1
+}
+
+pub fn agree(a: bool, b: bool) -> bool {
+    if a { b } else { !b }
+}
+
+// ---- events: four words
+
+pub fn event(case: &[u8; 104], n: usize) -> Event
+    requires { ⌜ n + 4 ≤ 26 ⌝ }
+{
+    let at = n * 4;
+    events::event_of(Slot {
+        kind: case[at],
+        pad: case[at + 1],
+        name: case[at + 2],
+        code: word(case, n + 1),
+        value: value(case, n + 2),
+        time: long(case, n + 3),
+    })
+}
+
+pub fn same(e: Event, case: &[u8; 104], n: usize) -> bool
+    requires { ⌜ n + 4 ≤ 26 ⌝ }
+{
+    let s = events::slot_of(e);
+    let at = n * 4;
+    if s.kind != case[at] {
+        return false;
+    }
+    if s.pad != case[at + 1] {
+        return false;
+    }
+    if s.name != case[at + 2] {
+        return false;
+    }
+    if s.code != word(case, n + 1) {
+        return false;
+    }
+    if binary32::bits_of(s.value) != word(case, n + 2) {
+        return false;
+    }
+    s.time == long(case, n + 3)
+}
+
+// an event that is queued is the one at these words
+pub fn waits(queued: bool, e: Event, case: &[u8; 104], n: usize) -> bool
+    requires { ⌜ n + 4 ≤ 26 ⌝ }
+{
+    if queued {
+        return same(e, case, n);
+    }
+    true
+}

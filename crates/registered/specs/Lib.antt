@@ -1,0 +1,6 @@
+pub mod Rows
+pub mod Laid
+pub mod Columns
+pub mod Found
+pub mod Converts
+pub mod Pads

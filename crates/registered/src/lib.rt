@@ -1,0 +1,1 @@
+// Theorems about registered pads, in specs/. No function.
