@@ -1,17 +1,17 @@
 -- The 52 places that registration lays for a good sheet: their codes do not fall, and each listed element stands in one, behind places of smaller codes.
 -- By what stands next: an element, a direction, both at once, or nothing more. Assumes nothing.
-use Prim.Native.Nat.{ℕ, zero, suc, _+_, _-_, _*_, _<_, _≤_}
-use mathlib.Core.Bool.{Bool, true, false, cond, _&&_, _||_}
+use Prim.Native.Nat.{ℕ, zero, suc, _+_, _-_, _<_, _≤_}
+use mathlib.Core.Bool.{Bool, true, false, _&&_, _||_}
 use mathlib.Core.List.{List, [], _∷_, map}
-use mathlib.Core.Path.{_≡_, refl, sym, _∙_, ap, subst}
+use mathlib.Core.Path.{_≡_, refl, ap, subst}
 use native.Mathlib.Omega.{arith}
 use lib.Dec.{eqb, ltb, leb}
 use lib.ListN.{length, getD}
 use borrow.Author.Tests.{eqb-true, eqb-false, ltb-true, ltb-false, leb-true, leb-false, ne-eqb}
 use Rattle.rules.specs.declared.Row.{Row}
-use Rattle.rules.specs.Names.{placesPerPad, elementLimit, codeUp}
-use Rattle.rules.specs.Sheets.{elementOf, countOf, rises, elementsFit, sheetRefusal}
-use Rattle.rules.specs.Places.{noElement, listedRow, unlistedRow, directions, elementNext, directionNext, nextRow, oneIf, rowsFrom, rowsOf}
+use Rattle.rules.specs.Names.{placesPerPad, codeUp}
+use Rattle.rules.specs.Sheets.{elementOf, countOf, rises, sheetRefusal}
+use Rattle.rules.specs.Places.{listedRow, unlistedRow, directions, elementNext, directionNext, nextRow, oneIf, rowsFrom, rowsOf}
 use Rattle.rules.specs.Calls.{rowCode}
 use Rattle.sheets.specs.Laws.{good, element-keeps}
 
