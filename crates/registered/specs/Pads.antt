@@ -15,7 +15,7 @@ use Rattle.rules.specs.declared.EventForm.{EventForm}
 use Rattle.rules.specs.declared.EventRead.{EventRead}
 use Rattle.rules.specs.declared.EventRead.the-variants as eventRead
 use Rattle.rules.specs.declared.Looked.{Looked}
-use Rattle.rules.specs.Names.{padLimit, placesPerPad}
+use Rattle.rules.specs.Names.{padLimit, placesPerPad, nowhere}
 use Rattle.rules.specs.Forms.{readEvent}
 use Rattle.rules.specs.Sheets.{sheetRefusal, hatsOf, countOf, elementOf}
 use Rattle.rules.specs.Places.{placeOf, scanOf, rowsOf, convertsOf}
@@ -26,6 +26,7 @@ use Rattle.pad.specs.Rising.{NeverFalls, place-is-scan}
 use Rattle.promises.specs.Reach.{Reached, new, register, rename, step, update, insert, inc, reset}
 use Rattle.registered.specs.Columns.{Keeps, Sized, laid-places, accepted, register-sized, register-keeps, register-others, keeps-rise}
 use Rattle.registered.specs.Found.{Listed, listed}
+use Rattle.registered.specs.Unlisted.{Foreign, not-found}
 use Rattle.registered.specs.Converts.{SamePlaces, converts-same}
 
 -- a pad with the sheet that it was registered with
@@ -226,3 +227,7 @@ module _ {h : Hub} (w : Reached h) (p : ℕ) (short : p < h .pads) where
   -- and each element that the sheet lists is found, with its kind, its name and what is kept of its limits
   pub element-kept : (e : ℕ) → e < countOf (sheet-of .sheet) → Listed h p (elementOf (sheet-of .sheet) e)
   element-kept e inside = listed h p (sheet-of .sheet) stands (sheet-of .taken) (sheet-of .keeps) e inside
+
+  -- while a code that is neither listed nor a direction's is not
+  pub foreign-absent : (c : ℕ) → Foreign (sheet-of .sheet) c → placeOf (h .codes) p c ≡ nowhere
+  foreign-absent c foreign = not-found (sheet-of .sheet) c foreign h p stands (sheet-of .taken) (sheet-of .keeps)

@@ -53,7 +53,7 @@ module _ (s : List ℕ) (taken : sheetRefusal s ≡ 0) where
 -- ---- what stands next
 
 module _ (s : List ℕ) (n i d : ℕ) where
-  element-facts : elementNext s n i d ≡ true → (i < n) × (d < directions → codeAt s i ≤ codeUp + d)
+  pub element-facts : elementNext s n i d ≡ true → (i < n) × (d < directions → codeAt s i ≤ codeUp + d)
   unfolding elementNext
   element-facts next = by (ltb i n) (leb directions d) (leb (codeAt s i) (codeUp + d)) refl refl refl next
     where
@@ -64,7 +64,7 @@ module _ (s : List ℕ) (n i d : ℕ) where
       by true false false ei ea em e = let z : _≡_ {A = ℕ} 0 1 = cc in absurd (omega arith)
       by false all most ei ea em e = let z : _≡_ {A = ℕ} 0 1 = cc in absurd (omega arith)
 
-  no-element-facts : elementNext s n i d ≡ false → i < n → (d < directions) × (codeUp + d < codeAt s i)
+  pub no-element-facts : elementNext s n i d ≡ false → i < n → (d < directions) × (codeUp + d < codeAt s i)
   unfolding elementNext
   no-element-facts next short = by (ltb i n) (leb directions d) (leb (codeAt s i) (codeUp + d)) refl refl refl next
     where
@@ -75,7 +75,7 @@ module _ (s : List ℕ) (n i d : ℕ) where
       by true false false ei ea em e = (leb-false directions d ea, leb-false (codeAt s i) (codeUp + d) em)
       by false all most ei ea em e = let past = ltb-false i n ei in absurd (omega arith)
 
-  direction-facts : directionNext s n i d ≡ true → (d < directions) × (i < n → codeUp + d ≤ codeAt s i)
+  pub direction-facts : directionNext s n i d ≡ true → (d < directions) × (i < n → codeUp + d ≤ codeAt s i)
   unfolding directionNext
   direction-facts next = by (ltb d directions) (leb n i) (leb (codeUp + d) (codeAt s i)) refl refl refl next
     where
@@ -86,7 +86,7 @@ module _ (s : List ℕ) (n i d : ℕ) where
       by true false false ei ea em e = let z : _≡_ {A = ℕ} 0 1 = cc in absurd (omega arith)
       by false all most ei ea em e = let z : _≡_ {A = ℕ} 0 1 = cc in absurd (omega arith)
 
-  no-direction-facts : directionNext s n i d ≡ false → d < directions → (i < n) × (codeAt s i < codeUp + d)
+  pub no-direction-facts : directionNext s n i d ≡ false → d < directions → (i < n) × (codeAt s i < codeUp + d)
   unfolding directionNext
   no-direction-facts next short = by (ltb d directions) (leb n i) (leb (codeUp + d) (codeAt s i)) refl refl refl next
     where
