@@ -1,8 +1,8 @@
 -- 01's five wrong machines, each shut out by the pump's promise: none of them answers what `pumpOf` does. Each is any pump with the fault, and 01's padlog
 -- example, computed by the checker, is the input on which it differs. Assumes nothing.
-use Prim.Native.Nat.{ℕ, _<_, _≤_}
+use Prim.Native.Nat.{ℕ, _<_}
 use mathlib.Core.Path.{_≡_, refl, sym, _∙_, ap}
-use mathlib.Core.Bool.{Bool, true, false}
+use mathlib.Core.Bool.{true, false}
 use mathlib.Core.List.{List, [], _∷_, _++_}
 use lib.ListN.{replicate}
 use lib.IntN.{ℤ, pos, negsuc}

@@ -1,24 +1,22 @@
 -- "The queue holds 64. It never overflows": what a step and an accepted insert do to the waiting events, as a list, and to their weighted sum. "No step
 -- that takes from the queue raises that sum, a step on an empty queue leaves at most 4, an accepted insert at most 64." Assumes nothing.
-use Prim.Native.Nat.{ℕ, zero, suc, _+_, _-_, _*_, _%_, _<_, _≤_}
-use mathlib.Core.Bool.{Bool, true, false, cond}
+use Prim.Native.Nat.{_+_, _-_, _%_, _<_, _≤_}
+use mathlib.Core.Bool.{Bool, true, false}
 use mathlib.Core.List.{List, [], _∷_, _++_}
-use mathlib.Core.Path.{_≡_, refl, ap, sym, _∙_}
-use lib.Dec.{ltb, eqb}
+use mathlib.Core.Path.{_≡_, refl, _∙_}
+use lib.Dec.{ltb}
 use lib.ListN.{length}
 use native.Mathlib.Omega.{arith}
-use borrow.Author.Tests.{lt-ltb, le-ltb, ltb-true, ltb-false}
+use borrow.Author.Tests.{lt-ltb, ltb-true, ltb-false}
 use Rattle.rules.specs.declared.Hub.{Hub}
 use Rattle.rules.specs.declared.Event.{Event}
 use Rattle.rules.specs.declared.Looked.{Looked}
-use Rattle.rules.specs.declared.Dispatched.{Dispatched}
 use Rattle.rules.specs.Names.{queueRoom, insertLimit}
-use Rattle.rules.specs.Dispatch.{single}
-use Rattle.rules.specs.Hub.{frontOf, viewOf, queueAfter, waitingAfter, placeIn, nameIn, elementAt, pressedAt}
-use Rattle.rules.specs.Step.{headAfter, markedOf, pushesOf, pushedOf, updatedAt, updatedOf, filteredIn, turnedOf, takenOf, recordGives, stepEvent, stepHub}
+use Rattle.rules.specs.Hub.{frontOf, viewOf, placeIn, nameIn, elementAt, pressedAt}
+use Rattle.rules.specs.Step.{headAfter, markedOf, pushesOf, pushedOf, updatedAt, updatedOf, filteredIn, turnedOf, takenOf, recordGives, stepHub}
 use Rattle.rules.specs.Calls.{insertedAt}
-use Rattle.promises.specs.Waiting.{ringList, waitingList, waiting-length, ring-length, restOf, popped, empty-rest, pushed, waiting-after, queue-length}
-use Rattle.promises.specs.Weight.{weightOf, weigh, weigh-bounds, weigh-append, event-weight, brought, record-brings, pushes-light, hatWeight}
+use Rattle.promises.specs.Waiting.{waitingList, waiting-length, ring-length, restOf, popped, empty-rest, pushed, queue-length}
+use Rattle.promises.specs.Weight.{weightOf, weigh, weigh-bounds, weigh-append, brought, record-brings, pushes-light, hatWeight}
 
 -- what holds of every hub that the calls reach: the ring has 64 places, and what waits weighs at most 64
 pub record Sound (h : Hub) : Type 0 where

@@ -1,27 +1,26 @@
 -- "The queue holds 64. It never overflows": for every hub that the public calls lead to, whatever they are given, what waits weighs at most 64, so at
 -- most 64 events wait and each that is queued finds room. By induction on the calls. Assumes nothing.
-use Prim.Native.Nat.{ℕ, zero, suc, _+_, _-_, _<_, _≤_}
+use Prim.Native.Nat.{ℕ, zero, suc, _<_, _≤_}
 use mathlib.Core.Bool.{Bool, true, false, cond}
-use mathlib.Core.List.{List, [], _∷_, _++_}
-use mathlib.Core.Path.{_≡_, refl, ap, sym, _∙_, subst}
+use mathlib.Core.List.{List, _++_}
+use mathlib.Core.Path.{_≡_, refl, ap, _∙_}
 use lib.Dec.{ltb, eqb}
 use lib.Ieee.{Float}
 use lib.ListN.{length}
 use native.Mathlib.Omega.{arith}
-use borrow.Author.Tests.{ltb-true, eqb-true, eqb-false}
+use borrow.Author.Tests.{ltb-true, eqb-false}
 use Rattle.rules.specs.declared.Hub.{Hub}
-use Rattle.rules.specs.declared.Event.{Event}
 use Rattle.rules.specs.declared.EventForm.{EventForm}
 use Rattle.rules.specs.declared.EventRead.{EventRead}
 use Rattle.rules.specs.declared.EventRead.the-variants as eventRead
 use Rattle.rules.specs.declared.Looked.{Looked}
-use Rattle.rules.specs.Names.{queueRoom, insertLimit}
+use Rattle.rules.specs.Names.{insertLimit}
 use Rattle.rules.specs.Forms.{readEvent}
-use Rattle.rules.specs.Refusals.{thresholdsRefusal, formRefusal, insertRefusal, pumpRefusal, first, unlessFits}
+use Rattle.rules.specs.Refusals.{thresholdsRefusal, formRefusal, insertRefusal, pumpRefusal, unlessFits}
 use Rattle.rules.specs.Events.{formEvent}
 use Rattle.rules.specs.Step.{updatedAt, updatedOf, lookedOf, stepHub}
-use Rattle.rules.specs.Pump.{Progress, Verdict, going, stopping, refusing, endedBy, steppedBy, stepped, verdictOf, runOf, startOf, pumpBy, pumpOf}
-use Rattle.rules.specs.Calls.{freshHub, idleHub, newBy, newOf, registeredAt, registerRefusal, registerBy, registerOf, renamedAt, renameRefusal, renameBy, renameOf, formPlace, updateFormBy, updateBy, updateOf, insertedAt, insertFormBy, insertBy, insertOf, countedAt, incOf, resetOf}
+use Rattle.rules.specs.Pump.{Progress, Verdict, going, stopping, refusing, steppedBy, stepped, verdictOf, runOf, startOf, pumpBy, pumpOf}
+use Rattle.rules.specs.Calls.{freshHub, idleHub, newBy, newOf, registeredAt, registerRefusal, registerBy, registerOf, renamedAt, renameRefusal, renameBy, renameOf, formPlace, updateFormBy, updateBy, updateOf, insertFormBy, insertBy, insertOf, countedAt, incOf, resetOf}
 use Rattle.promises.specs.Waiting.{ringList, waitingList, restOf}
 use Rattle.promises.specs.Weight.{weigh}
 use Rattle.promises.specs.Queue.{Sound, sound-waiting, pushesIn, nothing-lost, step-sound, insert-sound}

@@ -4,15 +4,10 @@ use Prim.Native.Nat.{ℕ}
 use mathlib.Core.List.{List}
 use mathlib.Core.Path.{_≡_, sym, _∙_, ap}
 use Rattle.rules.specs.declared.Hub.{Hub}
-use Rattle.rules.specs.declared.Answer.{Answer}
 use Rattle.rules.specs.declared.Answered.{Answered}
 use Rattle.rules.specs.declared.Registered.{Registered}
-use Rattle.rules.specs.declared.RegisterAnswer.{RegisterAnswer}
 use Rattle.rules.specs.declared.Pumped.{Pumped}
-use Rattle.rules.specs.declared.PumpAnswer.{PumpAnswer}
-use Rattle.rules.specs.declared.RepeatAnswer.{RepeatAnswer}
 use Rattle.rules.specs.Pump.{Run, pumpOf}
-use Rattle.rules.specs.Repeat.{repeatOf}
 use Rattle.rules.specs.Calls.{registerOf}
 
 -- two that equal the definition are equal: the counter calls, the repeat and the queries, whose answer is all that they leave

@@ -1,14 +1,11 @@
 -- The waiting events of a hub as a list, from the front on, and what the ring does to it: events pushed where there is room stand behind it in their
 -- order, and a step takes its first. So nothing that was queued is lost, and freed room is used again. Assumes nothing.
 use Prim.Native.Nat.{ℕ, zero, suc, _+_, _-_, _%_, _<_, _≤_}
-use mathlib.Core.Bool.{Bool, true, false, cond}
 use mathlib.Core.List.{List, [], _∷_, _++_, append-nil, append-assoc}
 use mathlib.Core.Path.{_≡_, refl, ap, sym, _∙_}
-use lib.Dec.{ltb}
 use lib.ListN.{length, getD, set, length-set}
 use lib.Seq.{getD-set-same, getD-set-other}
 use native.Mathlib.Omega.{arith}
-use native.Mathlib.Numerals.{add-one}
 use borrow.Author.Tests.{lt-ltb}
 use Rattle.rules.specs.declared.Hub.{Hub}
 use Rattle.rules.specs.declared.Event.{Event}
@@ -85,15 +82,6 @@ pub queue-length : (es : List Event) (queue : List Slot) (head n : ℕ) → leng
 unfolding queueAfter
 queue-length [] queue head n = refl
 queue-length (e ∷ es) queue head n = queue-length es (set queue (slotAt head n) (slotOf e)) head (longerOf n) ∙ simp length-set
-
--- where there is room, as many more wait as are pushed
-pub waiting-after : (es : List Event) (n : ℕ) → n + length es ≤ queueRoom → waitingAfter n es ≡ n + length es
-unfolding waitingAfter longerOf
-waiting-after [] n room = omega arith
-waiting-after (e ∷ es) n room =
-    let short : n < queueRoom = omega arith in
-    let m : n + 1 + length es ≤ queueRoom = omega arith in
-    rw (lt-ltb n queueRoom short) (waiting-after es (n + 1) m ∙ omega arith)
 
 -- events pushed where there is room stand behind those that wait, in their order
 pub pushed : (es : List Event) (queue : List Slot) (head n : ℕ) → length queue ≡ queueRoom → n + length es ≤ queueRoom

@@ -1,9 +1,9 @@
 -- 01's weighted sum: "count a waiting DPadX or DPadY axis event as 4, any other as 1". What the filters queue behind an event weighs at most what the
 -- event weighed, and what a record's event and the one behind it bring weighs at most 4. By the event's cases. Assumes nothing.
-use Prim.Native.Nat.{ℕ, zero, suc, _+_, _-_, _*_, _<_, _≤_}
-use mathlib.Core.Bool.{Bool, true, false, cond, not, _&&_, _||_}
+use Prim.Native.Nat.{ℕ, _+_, _*_, _≤_}
+use mathlib.Core.Bool.{Bool, true, false, cond, not, _&&_}
 use mathlib.Core.List.{List, [], _∷_, _++_}
-use mathlib.Core.Path.{_≡_, refl, ap, sym, _∙_}
+use mathlib.Core.Path.{_≡_, refl}
 use lib.Dec.{eqb}
 use lib.Ieee.{Float, eq, le}
 use lib.ListN.{length, take, set}
@@ -18,15 +18,14 @@ use Rattle.rules.specs.declared.EventType.{EventType}
 use Rattle.rules.specs.declared.EventType.the-variants.{Pressed, Released, Repeated, Changed, Axis, Connected, Disconnected, Dropped}
 use Rattle.rules.specs.declared.View.{View}
 use Rattle.rules.specs.declared.Gives.{Gives}
-use Rattle.rules.specs.declared.Zoned.{Zoned}
 use Rattle.rules.specs.declared.RawRecord.{RawRecord}
 use Rattle.rules.specs.declared.Element.{Element}
 use Rattle.rules.specs.declared.Dispatched.{Dispatched}
-use Rattle.rules.specs.Names.{isHat, isAxis, isButton, isY, partnerOf, positiveName, negativeName, positiveCode, negativeCode, leftStickX, leftStickY, rightStickX, rightStickY, dpadX, dpadY}
+use Rattle.rules.specs.Names.{isHat, isAxis, isButton, partnerOf, positiveName, negativeName, positiveCode, negativeCode, leftStickX, leftStickY, rightStickX, rightStickY, dpadX, dpadY}
 use Rattle.rules.specs.Places.{oneIf}
 use Rattle.rules.specs.Events.{alone, dropped, queuedOf}
-use Rattle.rules.specs.Filters.{Direction, hatBy, hatGives, dpadType, dpadOf, jitterType, jitteredOf, deadzoneType, deadzonedOf, clearsPartner, stickZoned, buttonZoned, shrunk, joined, filteredOf}
-use Rattle.rules.specs.Dispatch.{Move, pressing, moving, joining, leaving, moveOf, buttonName, axisName, pressType, pressGives, triggerBy, triggerGives, moveGives, dispatchBy, dispatchOf, amount}
+use Rattle.rules.specs.Filters.{Direction, hatBy, hatGives, dpadType, dpadOf, jitteredOf, deadzonedOf, clearsPartner, stickZoned, buttonZoned, shrunk, joined, filteredOf}
+use Rattle.rules.specs.Dispatch.{Move, pressing, moving, joining, leaving, moveOf, axisName, pressGives, triggerBy, triggerGives, moveGives, dispatchBy, dispatchOf}
 use Rattle.rules.specs.Step.{pushesOf}
 
 -- ---- the weighted sum

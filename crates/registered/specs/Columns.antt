@@ -1,26 +1,25 @@
 -- What the hub keeps of a registered pad is what its sheet says: the pad's 52 places have the rows that registration lays, and another pad's registration
 -- leaves them alone. Assumes nothing.
-use Prim.Native.Nat.{ℕ, zero, suc, _+_, _-_, _*_, _/_, _<_, _≤_}
-use mathlib.Core.Bool.{Bool, true, false, cond}
+use Prim.Native.Nat.{ℕ, zero, suc, _+_, _-_, _*_, _<_, _≤_}
+use mathlib.Core.Bool.{Bool, true, false}
 use mathlib.Core.List.{List, [], _∷_, map}
-use mathlib.Core.Path.{_≡_, refl, sym, _∙_, ap, subst}
+use mathlib.Core.Path.{_≡_, refl, _∙_, subst}
 use native.Mathlib.Omega.{arith}
-use lib.Dec.{eqb, ltb}
-use lib.ListN.{length, length-map, getD, set, length-set, List·getD-map}
+use lib.Dec.{ltb}
+use lib.ListN.{length, length-map, getD, length-set, List·getD-map}
 use lib.Seq.{getD-set-same, getD-set-other}
-use borrow.Author.Tests.{ltb-true, eqb-true, eqb-false}
+use borrow.Author.Tests.{ltb-true}
 use Rattle.rules.specs.declared.Hub.{Hub}
 use Rattle.rules.specs.declared.Row.{Row}
-use Rattle.rules.specs.declared.Element.{Element}
 use Rattle.rules.specs.Names.{padLimit, placesPerPad, nowhere, noName}
 use Rattle.rules.specs.Sheets.{sheetRefusal, hatsOf, countOf}
-use Rattle.rules.specs.Places.{noElement, unlistedRow, rowsOf, scanOf}
+use Rattle.rules.specs.Places.{unlistedRow, rowsOf}
 use Rattle.rules.specs.Refusals.{first, unlessFits}
 use Rattle.rules.specs.Hub.{pastElement}
-use Rattle.rules.specs.Calls.{laid, rowCode, rowKind, rowName, rowElement, registeredAt, registerRefusal, registerBy, registerOf}
+use Rattle.rules.specs.Calls.{laid, rowCode, rowKind, rowName, rowElement, registeredAt, registerRefusal}
 use Rattle.pad.specs.Rising.{NeverFalls}
-use Rattle.registered.specs.Laid.{laid-length, laid-before, laid-behind, laid-at}
-use Rattle.registered.specs.Rows.{Climbs, climbs-rise, places-climb, rows-length}
+use Rattle.registered.specs.Laid.{laid-length, laid-before, laid-at}
+use Rattle.registered.specs.Rows.{climbs-rise, places-climb, rows-length}
 
 -- a good sheet's row for the j-th of a pad's places
 unfoldable pub rowAt : List ℕ → ℕ → Row
@@ -72,10 +71,10 @@ module _ {A : Type 0} (f : Row → A) (past : A) (s : List ℕ) (xs : List A) (p
       laid-at past (map f (rowsOf s (countOf s))) xs (placesPerPad * p) j inside (omega arith)
       ∙ (inside-any (map f (rowsOf s (countOf s))) j past (f (unlistedRow 0)) inside ∙ List·getD-map f (rowsOf s (countOf s)) j (unlistedRow 0))
 
-  -- another pad's places what they had
-  column-other : (q j : ℕ) → q < p → j < placesPerPad
-      → getD (laid xs (placesPerPad * p) (map f (rowsOf s (countOf s)))) (placesPerPad * q + j) past ≡ getD xs (placesPerPad * q + j) past
-  column-other q j less short = laid-before past (map f (rowsOf s (countOf s))) xs (placesPerPad * p) (placesPerPad * q + j) (omega arith)
+-- the places of a pad before the one that is laid
+pub laid-places : {A : Type 0} (xs vs : List A) (q p j : ℕ) (past : A) → q < p → j < placesPerPad * q + placesPerPad
+    → getD (laid xs (placesPerPad * p) vs) j past ≡ getD xs j past
+laid-places xs vs q p j past less to = laid-before past vs xs (placesPerPad * p) j (omega arith)
 
 -- ---- registration
 
@@ -129,26 +128,17 @@ module _ (h : Hub) (s : List ℕ) (z : Sized h) where
     pub register-others : (q : ℕ) (t : List ℕ) → q < h .pads → Keeps h q t → Keeps (after h s) q t
     unfolding registeredAt
     register-others q t less k =
-        let codes = z .codes in
-        let kinds = z .kinds in
-        let names = z .names in
-        let elements = z .elements in
         let other : q ≡ h .pads → ⊥ = λ e. omega arith in
         record {
-          codes = λ j short. column-other rowCode 0 s (h .codes) (h .pads) stands (omega arith) q j less short ∙ k .codes j short;
-          kinds = λ j short. column-other rowKind 0 s (h .kinds) (h .pads) stands (omega arith) q j less short ∙ k .kinds j short;
-          names = λ j short. column-other rowName noName s (h .names) (h .pads) stands (omega arith) q j less short ∙ k .names j short;
+          codes = λ j short. laid-places (h .codes) (map rowCode (rowsOf s (countOf s))) q (h .pads) (placesPerPad * q + j) 0 less (omega arith) ∙ k .codes j short;
+          kinds = λ j short. laid-places (h .kinds) (map rowKind (rowsOf s (countOf s))) q (h .pads) (placesPerPad * q + j) 0 less (omega arith) ∙ k .kinds j short;
+          names = λ j short. laid-places (h .names) (map rowName (rowsOf s (countOf s))) q (h .pads) (placesPerPad * q + j) noName less (omega arith) ∙ k .names j short;
           elements =
               λ j short.
-              column-other rowElement pastElement s (h .elements) (h .pads) stands (omega arith) q j less short ∙ k .elements j short;
+              laid-places (h .elements) (map rowElement (rowsOf s (countOf s))) q (h .pads) (placesPerPad * q + j) pastElement less (omega arith) ∙ k .elements j short;
           count = getD-set-other (h .counts) (h .pads) q (countOf s) 0 other ∙ k .count;
           hats = getD-set-other (h .hats) (h .pads) q (hatsOf s) 0 other ∙ k .hats;
         }
-
--- the places of a pad before the one that is laid
-pub laid-places : {A : Type 0} (xs vs : List A) (q p j : ℕ) (past : A) → q < p → j < placesPerPad * q + placesPerPad
-    → getD (laid xs (placesPerPad * p) vs) j past ≡ getD xs j past
-laid-places xs vs q p j past less to = laid-before past vs xs (placesPerPad * p) j (omega arith)
 
 -- ---- a kept pad's codes do not fall
 

@@ -1,15 +1,15 @@
 -- Whether a pad converts depends on its own 52 places alone, so another pad's registration does not change it. Assumes nothing.
-use Prim.Native.Nat.{ℕ, zero, suc, _+_, _-_, _*_, _/_, _<_, _≤_}
-use mathlib.Core.Bool.{Bool, true, false, cond, not, _&&_, _||_}
+use Prim.Native.Nat.{ℕ, zero, suc, _+_, _*_, _<_, _≤_}
+use mathlib.Core.Bool.{Bool, true, false}
 use mathlib.Core.List.{List}
-use mathlib.Core.Path.{_≡_, refl, sym, _∙_, ap, subst}
+use mathlib.Core.Path.{_≡_, refl, sym, _∙_}
 use native.Mathlib.Omega.{arith}
-use lib.Dec.{eqb, ltb}
+use lib.Dec.{ltb}
 use lib.ListN.{length, getD, List·getD-eq-default}
 use borrow.Author.Tests.{ltb-true, ltb-false}
 use Rattle.rules.specs.Names.{padLimit, placesPerPad, nowhere, noName, codeUp, codeDown, codeLeft, codeRight, dpadRight}
 use Rattle.rules.specs.Places.{placeOf, scanOf, namedOf, codeNamed, directionNamed, convertsOf}
-use Rattle.pad.specs.Lookup.{place-small, place-stands}
+use Rattle.pad.specs.Lookup.{place-stands}
 use Rattle.pad.specs.Rising.{NeverFalls, place-is-scan}
 
 -- two columns have the same in pad p's places, whatever stands past their ends

@@ -1,24 +1,23 @@
 -- A listed element is found: the lookup of its code in a kept pad answers the place that registration gave it, with its kind, its name and what is kept of
 -- its limits. By the scan that the lookup equals on codes that do not fall. Assumes nothing.
-use Prim.Native.Nat.{ℕ, zero, suc, _+_, _-_, _*_, _<_, _≤_}
+use Prim.Native.Nat.{ℕ, _+_, _-_, _*_, _<_, _≤_}
 use mathlib.Core.Bool.{Bool, true, false, cond}
 use mathlib.Core.List.{List}
 use mathlib.Core.Logic.{_⊎_, inl, inr}
-use mathlib.Core.Path.{_≡_, refl, sym, _∙_, ap, subst}
+use mathlib.Core.Path.{_≡_, refl, _∙_, ap}
 use native.Mathlib.Omega.{arith}
 use lib.Dec.{eqb, ltb}
-use lib.ListN.{length, getD}
+use lib.ListN.{getD}
 use borrow.Author.Tests.{ltb-true, ltb-false}
 use Rattle.rules.specs.declared.Hub.{Hub}
 use Rattle.rules.specs.declared.Row.{Row}
-use Rattle.rules.specs.declared.Element.{Element}
 use Rattle.rules.specs.declared.SheetElement.{SheetElement}
 use Rattle.rules.specs.Names.{padLimit, placesPerPad, nowhere, noName}
 use Rattle.rules.specs.Sheets.{sheetRefusal, countOf, elementOf, elementButton}
-use Rattle.rules.specs.Places.{placeOf, scanOf, noElement, axisElement, listedRow, rowsOf}
-use Rattle.rules.specs.Hub.{placeIn, kindAt, elementAt, pastElement}
+use Rattle.rules.specs.Places.{scanOf, noElement, axisElement, listedRow, rowsOf}
+use Rattle.rules.specs.Hub.{placeIn, kindAt, elementAt}
 use Rattle.pad.specs.Lookup.{Absent, First, scan-cases}
-use Rattle.pad.specs.Rising.{NeverFalls, place-is-scan}
+use Rattle.pad.specs.Rising.{place-is-scan}
 use Rattle.registered.specs.Rows.{codeAt, Stands, places-stand}
 use Rattle.registered.specs.Columns.{rowAt, Keeps, keeps-rise, code-here, places-length}
 

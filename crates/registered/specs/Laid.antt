@@ -1,9 +1,7 @@
--- A column after a run of it is laid: the run has the values, every other place what it had, and the column its length. Assumes nothing.
-use Prim.Native.Nat.{ℕ, zero, suc, _+_, _-_, _*_, _<_, _≤_}
-use mathlib.Core.Bool.{Bool, true, false, cond}
-use mathlib.Core.List.{List, [], _∷_, map}
-use mathlib.Core.Logic.{_⊎_, inl, inr}
-use mathlib.Core.Path.{_≡_, refl, sym, _∙_, ap, subst}
+-- A column after a run of it is laid: the run has the values, a place before it what it had, and the column its length. Assumes nothing.
+use Prim.Native.Nat.{ℕ, zero, suc, _+_, _<_, _≤_}
+use mathlib.Core.List.{List, [], _∷_}
+use mathlib.Core.Path.{_≡_, refl, _∙_}
 use native.Mathlib.Omega.{arith}
 use lib.ListN.{length, getD, set, length-set}
 use lib.Seq.{getD-set-same, getD-set-other}
@@ -21,13 +19,6 @@ module _ {A : Type 0} (past : A) where
   laid-before [] xs k j short = refl
   laid-before (v ∷ vs) xs k j short =
       laid-before vs (set xs k v) (k + 1) j (omega arith) ∙ getD-set-other xs k j v past (λ e. omega arith)
-
-  -- a place behind it
-  pub laid-behind : (vs xs : List A) (k j : ℕ) → k + length vs ≤ j → getD (laid xs k vs) j past ≡ getD xs j past
-  unfolding laid
-  laid-behind [] xs k j past-end = refl
-  laid-behind (v ∷ vs) xs k j past-end =
-      laid-behind vs (set xs k v) (k + 1) j (omega arith) ∙ getD-set-other xs k j v past (λ e. omega arith)
 
   -- a place of the run
   pub laid-at : (vs xs : List A) (k i : ℕ) → i < length vs → k + length vs ≤ length xs → getD (laid xs k vs) (k + i) past ≡ getD vs i past

@@ -1,12 +1,12 @@
 -- Every hub that the public calls reach: at most four pads stand, each keeps the sheet that it was registered with, its codes do not fall, and the lookup of
 -- a code answers what a plain scan of its places would. By induction on the calls; only registration touches the sheets' columns. Assumes nothing.
-use Prim.Native.Nat.{ℕ, zero, suc, _+_, _-_, _*_, _<_, _≤_}
-use mathlib.Core.Bool.{Bool, true, false, cond}
-use mathlib.Core.List.{List, [], _∷_, map}
-use mathlib.Core.Path.{_≡_, refl, sym, _∙_, ap, subst}
-use lib.Dec.{eqb, ltb}
+use Prim.Native.Nat.{ℕ, zero, suc, _+_, _*_, _<_, _≤_}
+use mathlib.Core.Bool.{Bool, true, false}
+use mathlib.Core.List.{List, map}
+use mathlib.Core.Path.{_≡_, refl, sym, _∙_, subst}
+use lib.Dec.{ltb}
 use lib.Ieee.{Float}
-use lib.ListN.{length, getD}
+use lib.ListN.{getD}
 use lib.Seq.{getD-set-same, getD-set-other}
 use native.Mathlib.Omega.{arith}
 use borrow.Author.Tests.{ltb-true, ltb-false}
@@ -15,10 +15,10 @@ use Rattle.rules.specs.declared.EventForm.{EventForm}
 use Rattle.rules.specs.declared.EventRead.{EventRead}
 use Rattle.rules.specs.declared.EventRead.the-variants as eventRead
 use Rattle.rules.specs.declared.Looked.{Looked}
-use Rattle.rules.specs.Names.{padLimit, placesPerPad}
+use Rattle.rules.specs.Names.{padLimit, placesPerPad, nowhere, codeUp}
 use Rattle.rules.specs.Forms.{readEvent}
 use Rattle.rules.specs.Sheets.{sheetRefusal, hatsOf, countOf, elementOf}
-use Rattle.rules.specs.Places.{placeOf, scanOf, rowsOf, convertsOf}
+use Rattle.rules.specs.Places.{directions, placeOf, scanOf, rowsOf, convertsOf}
 use Rattle.rules.specs.Refusals.{thresholdsRefusal, formRefusal, insertRefusal}
 use Rattle.rules.specs.Step.{markedOf, pushedOf, turnedOf, updatedAt, updatedOf, stepHub}
 use Rattle.rules.specs.Calls.{rowCode, rowName, freshHub, idleHub, newBy, newOf, registeredAt, registerRefusal, registerBy, registerOf, renamedAt, renameRefusal, renameBy, renameOf, formPlace, updateFormBy, updateBy, updateOf, insertedAt, insertFormBy, insertBy, insertOf, countedAt, incOf, resetOf}
@@ -26,6 +26,8 @@ use Rattle.pad.specs.Rising.{NeverFalls, place-is-scan}
 use Rattle.promises.specs.Reach.{Reached, new, register, rename, step, update, insert, inc, reset}
 use Rattle.registered.specs.Columns.{Keeps, Sized, laid-places, accepted, register-sized, register-keeps, register-others, keeps-rise}
 use Rattle.registered.specs.Found.{Listed, listed}
+use Rattle.registered.specs.Directions.{direction-found}
+use Rattle.registered.specs.Unlisted.{Foreign, not-found}
 use Rattle.registered.specs.Converts.{SamePlaces, converts-same}
 
 -- a pad with the sheet that it was registered with
@@ -226,3 +228,11 @@ module _ {h : Hub} (w : Reached h) (p : ℕ) (short : p < h .pads) where
   -- and each element that the sheet lists is found, with its kind, its name and what is kept of its limits
   pub element-kept : (e : ℕ) → e < countOf (sheet-of .sheet) → Listed h p (elementOf (sheet-of .sheet) e)
   element-kept e inside = listed h p (sheet-of .sheet) stands (sheet-of .taken) (sheet-of .keeps) e inside
+
+  -- so is each direction, listed or not
+  pub direction-kept : (d : ℕ) → d < directions → placeOf (h .codes) p (codeUp + d) < nowhere
+  direction-kept d few = direction-found h p (sheet-of .sheet) stands (sheet-of .taken) (sheet-of .keeps) d few
+
+  -- while a code that is neither listed nor a direction's is not
+  pub foreign-absent : (c : ℕ) → Foreign (sheet-of .sheet) c → placeOf (h .codes) p c ≡ nowhere
+  foreign-absent c foreign = not-found (sheet-of .sheet) c foreign h p stands (sheet-of .taken) (sheet-of .keeps)

@@ -1,17 +1,17 @@
 -- The 52 places that registration lays for a good sheet: their codes do not fall, and each listed element stands in one, behind places of smaller codes.
 -- By what stands next: an element, a direction, both at once, or nothing more. Assumes nothing.
-use Prim.Native.Nat.{ℕ, zero, suc, _+_, _-_, _*_, _<_, _≤_}
-use mathlib.Core.Bool.{Bool, true, false, cond, _&&_, _||_}
+use Prim.Native.Nat.{ℕ, zero, suc, _+_, _-_, _<_, _≤_}
+use mathlib.Core.Bool.{Bool, true, false, _&&_, _||_}
 use mathlib.Core.List.{List, [], _∷_, map}
-use mathlib.Core.Path.{_≡_, refl, sym, _∙_, ap, subst}
+use mathlib.Core.Path.{_≡_, refl, ap, subst}
 use native.Mathlib.Omega.{arith}
 use lib.Dec.{eqb, ltb, leb}
 use lib.ListN.{length, getD}
 use borrow.Author.Tests.{eqb-true, eqb-false, ltb-true, ltb-false, leb-true, leb-false, ne-eqb}
 use Rattle.rules.specs.declared.Row.{Row}
-use Rattle.rules.specs.Names.{placesPerPad, elementLimit, codeUp}
-use Rattle.rules.specs.Sheets.{elementOf, countOf, rises, elementsFit, sheetRefusal}
-use Rattle.rules.specs.Places.{noElement, listedRow, unlistedRow, directions, elementNext, directionNext, nextRow, oneIf, rowsFrom, rowsOf}
+use Rattle.rules.specs.Names.{placesPerPad, codeUp}
+use Rattle.rules.specs.Sheets.{elementOf, countOf, rises, sheetRefusal}
+use Rattle.rules.specs.Places.{listedRow, unlistedRow, directions, elementNext, directionNext, nextRow, oneIf, rowsFrom, rowsOf}
 use Rattle.rules.specs.Calls.{rowCode}
 use Rattle.sheets.specs.Laws.{good, element-keeps}
 
@@ -53,7 +53,7 @@ module _ (s : List ℕ) (taken : sheetRefusal s ≡ 0) where
 -- ---- what stands next
 
 module _ (s : List ℕ) (n i d : ℕ) where
-  element-facts : elementNext s n i d ≡ true → (i < n) × (d < directions → codeAt s i ≤ codeUp + d)
+  pub element-facts : elementNext s n i d ≡ true → (i < n) × (d < directions → codeAt s i ≤ codeUp + d)
   unfolding elementNext
   element-facts next = by (ltb i n) (leb directions d) (leb (codeAt s i) (codeUp + d)) refl refl refl next
     where
@@ -64,7 +64,7 @@ module _ (s : List ℕ) (n i d : ℕ) where
       by true false false ei ea em e = let z : _≡_ {A = ℕ} 0 1 = cc in absurd (omega arith)
       by false all most ei ea em e = let z : _≡_ {A = ℕ} 0 1 = cc in absurd (omega arith)
 
-  no-element-facts : elementNext s n i d ≡ false → i < n → (d < directions) × (codeUp + d < codeAt s i)
+  pub no-element-facts : elementNext s n i d ≡ false → i < n → (d < directions) × (codeUp + d < codeAt s i)
   unfolding elementNext
   no-element-facts next short = by (ltb i n) (leb directions d) (leb (codeAt s i) (codeUp + d)) refl refl refl next
     where
@@ -75,7 +75,7 @@ module _ (s : List ℕ) (n i d : ℕ) where
       by true false false ei ea em e = (leb-false directions d ea, leb-false (codeAt s i) (codeUp + d) em)
       by false all most ei ea em e = let past = ltb-false i n ei in absurd (omega arith)
 
-  direction-facts : directionNext s n i d ≡ true → (d < directions) × (i < n → codeUp + d ≤ codeAt s i)
+  pub direction-facts : directionNext s n i d ≡ true → (d < directions) × (i < n → codeUp + d ≤ codeAt s i)
   unfolding directionNext
   direction-facts next = by (ltb d directions) (leb n i) (leb (codeUp + d) (codeAt s i)) refl refl refl next
     where
@@ -86,7 +86,7 @@ module _ (s : List ℕ) (n i d : ℕ) where
       by true false false ei ea em e = let z : _≡_ {A = ℕ} 0 1 = cc in absurd (omega arith)
       by false all most ei ea em e = let z : _≡_ {A = ℕ} 0 1 = cc in absurd (omega arith)
 
-  no-direction-facts : directionNext s n i d ≡ false → d < directions → (i < n) × (codeAt s i < codeUp + d)
+  pub no-direction-facts : directionNext s n i d ≡ false → d < directions → (i < n) × (codeAt s i < codeUp + d)
   unfolding directionNext
   no-direction-facts next short = by (ltb d directions) (leb n i) (leb (codeUp + d) (codeAt s i)) refl refl refl next
     where
