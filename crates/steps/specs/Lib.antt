@@ -1,5 +1,6 @@
 pub mod Runs
 pub mod Records
+pub mod Pushes
 pub mod Turns
 pub mod Updates
 pub mod Parts

@@ -1,20 +1,16 @@
--- What a turn of the pump's loop gathers, decides and commits is the law book's step. One law for each stage, over plain variables: the events pushed
--- one by one, the marks of a taken record, what is taken, what the filters make of it; and the step put together, for an event that is dropped and for one
+-- What a turn of the pump's loop gathers, decides and commits is the law book's step. One law for each stage, over plain variables: the marks of a taken
+-- record, what is taken, what the filters make of it; and the step put together, for an event that is dropped and for one
 -- that is kept. Assumes nothing.
 use Prim.Native.Nat.{ℕ, zero, suc, _+_, _-_, _*_, _%_, _≤_, _<_}
 use mathlib.Core.Path.{_≡_, refl, sym, _∙_, ap}
 use mathlib.Core.Bool.{Bool, true, false, cond}
 use mathlib.Core.List.{List, [], _∷_}
-use lib.ListN.{length, getD, set, take, drop, length-take, drop-of-length-le}
-use lib.Seq.{drop-cons, getD-take, length-take-le}
+use lib.ListN.{getD, set}
 use lib.Dec.{ltb}
 use native.Mathlib.Nat.{add-zero}
-use native.Mathlib.Numerals.{add-one}
 use native.Mathlib.Omega.{arith}
 use Rattle.rules.specs.declared.Hub.{Hub}
 use Rattle.rules.specs.declared.Event.{Event}
-use Rattle.rules.specs.declared.EventType.the-variants.{Pressed}
-use Rattle.rules.specs.declared.Slot.{Slot}
 use Rattle.rules.specs.declared.RawRecord.{RawRecord}
 use Rattle.rules.specs.declared.Looked.{Looked}
 use Rattle.rules.specs.declared.Dispatched.{Dispatched}
@@ -23,108 +19,18 @@ use Rattle.rules.specs.declared.Filtered.{Filtered}
 use Rattle.rules.specs.declared.View.{View}
 use Rattle.rules.specs.Names.{placesPerPad, flagsPerPad, queueRoom, partnerOf}
 use Rattle.rules.specs.Places.{placeOf, clearedOf, oneIf}
-use Rattle.rules.specs.Events.{nameOf, codeOf, slotOf}
+use Rattle.rules.specs.Events.{nameOf, codeOf}
 use Rattle.rules.specs.Filters.{filteredOf, keptOf}
-use Rattle.rules.specs.Hub.{longerOf, slotAt, queueAfter, waitingAfter, viewAt, viewOf, frontOf, flagPlace, pressedAt, elementAt, buttonAt, axisAt, pastSlot, pastElement, pastButton, pastAxis}
+use Rattle.rules.specs.Hub.{viewAt, viewOf, frontOf, flagPlace, pressedAt, elementAt, buttonAt, axisAt, pastSlot, pastElement, pastButton, pastAxis}
 use Rattle.rules.specs.Step.{lookedOf, takenOf, recordGives, markedOf, connectedAfter, renamedAfter, joinRun, headAfter, pushesOf, flagsSet, pushedOf, filteredIn, turnedOf, stepEvent, stepHub, updatedOf}
 use Rattle.rules.specs.Pump.{Progress, stepped, steppedBy, placeAfter, outAfter}
 use Rattle.gather.specs.declared.Found.{Found}
 use Rattle.gather.specs.declared.Sight.{Sight}
 use Rattle.gather.specs.Sight.{SightIs, foundAt, sightAt, viewBy, view-is}
-use Rattle.turn.specs.Turn.{part, takenBy}
+use Rattle.turn.specs.Turn.{takenBy}
+use Rattle.steps.specs.Pushes.{queuedHub}
 use Rattle.steps.specs.Runs.{standing}
 use Rattle.steps.specs.Updates.{dropped-same}
-
--- ---- the events pushed, one by one
-
--- what an array of events has past its end
-abbrev pub pastEvent : Event
-pastEvent = record { pad = 0; time = 0; event = Pressed 0 0 }
-
--- a hub with more events waiting
-unfoldable pub queuedHub : Hub → List Event → Hub
-queuedHub h es =
-    record {
-      pressed = h .pressed;
-      released = h .released;
-      reversed = h .reversed;
-      filters = h .filters;
-      updates = h .updates;
-      counter = h .counter;
-      pads = h .pads;
-      counts = h .counts;
-      connected = h .connected;
-      hats = h .hats;
-      converts = h .converts;
-      renamed = h .renamed;
-      rehats = h .rehats;
-      reconverts = h .reconverts;
-      codes = h .codes;
-      kinds = h .kinds;
-      names = h .names;
-      renames = h .renames;
-      elements = h .elements;
-      touched = h .touched;
-      buttons = h .buttons;
-      moved = h .moved;
-      axes = h .axes;
-      flags = h .flags;
-      queue = queueAfter (h .queue) (h .head) (h .waiting) es;
-      head = h .head;
-      waiting = waitingAfter (h .waiting) es;
-    }
-
-part-cons : (es : List Event) (x end : ℕ) → x < end → end ≤ length es → part es x end ≡ getD es x pastEvent ∷ part es (x + 1) end
-part-cons es x end l h =
-    let long : x < length (take end es) = rw (length-take-le end es h) l in
-    drop-cons (take end es) x pastEvent long ∙ rw (getD-take end es x pastEvent l, add-one)
-
-pub push-one :
-    (h : Hub) (es : List Event) (x end : ℕ) {u : Event} {free waiting : ℕ} {slot : Slot} →
-    x < end →
-    end ≤ length es →
-    u ≡ getD es x pastEvent →
-    free ≡ slotAt (h .head) (h .waiting) →
-    slot ≡ slotOf u →
-    waiting ≡ longerOf (h .waiting) →
-    queuedHub h (part es x end)
-    ≡ queuedHub
-    (record {
-      pressed = h .pressed;
-      released = h .released;
-      reversed = h .reversed;
-      filters = h .filters;
-      updates = h .updates;
-      counter = h .counter;
-      pads = h .pads;
-      counts = h .counts;
-      connected = h .connected;
-      hats = h .hats;
-      converts = h .converts;
-      renamed = h .renamed;
-      rehats = h .rehats;
-      reconverts = h .reconverts;
-      codes = h .codes;
-      kinds = h .kinds;
-      names = h .names;
-      renames = h .renames;
-      elements = h .elements;
-      touched = h .touched;
-      buttons = h .buttons;
-      moved = h .moved;
-      axes = h .axes;
-      flags = h .flags;
-      queue = set (h .queue) free slot;
-      head = h .head;
-      waiting = waiting;
-    })
-    (part es (x + 1) end)
-unfolding queuedHub queueAfter waitingAfter
-push-one h es x end l long eu ef es' ew = rw (part-cons es x end l long, ew, es', ef, eu)
-
-pub push-done : (h : Hub) (es : List Event) (x end : ℕ) → end ≤ x → end ≤ length es → h ≡ queuedHub h (part es x end)
-unfolding queuedHub queueAfter waitingAfter
-push-done h es x end l long = rw (drop-of-length-le (take end es) {i = x} (rw (length-take-le end es long) l))
 
 -- ---- the marks of a taken record
 

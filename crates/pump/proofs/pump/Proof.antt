@@ -8,9 +8,10 @@ use lib.ListN.{length, length-drop, length-take}
 use denote.Ref.{now}
 use native.Mathlib.Omega.{arith}
 use Rattle.turn.specs.Turn.{part, unmapped}
-use Rattle.steps.specs.Runs.{rest, standing, Roomy, roomy, accepted, run-stops, run-refuses, run-goes, pump-refuses, pump-runs}
+use Rattle.steps.specs.Runs.{rest, standing, roomy, accepted, run-stops, run-refuses, run-goes, pump-refuses, pump-runs}
 use Rattle.steps.specs.Records.{taken-within, place-small, refusal-is}
-use Rattle.steps.specs.Turns.{queuedHub, push-one, push-done, Turned, turn-is, step-skips, step-keeps}
+use Rattle.steps.specs.Pushes.{queuedHub, push-one, push-done}
+use Rattle.steps.specs.Turns.{Turned, turn-is, step-skips, step-keeps}
 use Rattle.steps.specs.Updates.{update-is}
 use Rattle.steps.specs.Parts.{put-is, put-length}
 use Rattle.steps.specs.Going.{Going}
