@@ -1,5 +1,8 @@
 #!/usr/bin/env bash
-# The main job. Until the program padlog stands on the hub, this plays document 01's padlog example on gilrs itself, or, without rustc or the supplied
-# source, shows the stored answers and says so.
+# Builds padlog, proved, and runs it on a shipped sheet and batch: padlog.sh [SHEET BATCH]. Without names, document 01's example.
 set -euo pipefail
-exec "$(dirname "${BASH_SOURCE[0]}")/oracle/example.sh"
+cd "$(dirname "${BASH_SOURCE[0]}")"
+sheet=${1:-hat} batch=${2:-hat}
+mkdir -p target
+rt check padlog >target/padlog.log 2>&1 || { cat target/padlog.log >&2; exit 1; }
+cat "desk-files/sheets/$sheet.bin" "desk-files/batches/$batch.bin" | desk-files/run padlog
