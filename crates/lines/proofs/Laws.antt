@@ -141,6 +141,15 @@ ended size end text name before at mid place after next e short first second roo
     let l : Laid (length text) text before at mid place = laid _ _ _ _ _ _ first (omega arith) in
     named _ _ _ _ _ _ _ _ (more _ _ _ _ _ _ _ _ _ _ l second (omega arith)) (ap (λ (t : List ℕ). t ++ (end ∷ [])) e) (omega arith) room
 
+-- the bytes up to behind a laid text
+pub laid-take : (used : ℕ) (text before : List ℕ) (at : ℕ) (after : List ℕ) (next : ℕ) → Laid used text before at after next → at + used ≤ length before → take next after ≡ take at before ++ text
+unfolding laidOver
+laid-take used text before at after next l h =
+    let s : length text ≤ used = l .short in
+    let k : at ≤ length before = omega arith in
+    let rest = drop (at + length text) before in
+    rw (l .place, l .is) (ap (take (at + length text)) (sym (append-assoc (take at before) text rest)) ∙ take-at (take at before ++ text) rest (at + length text) (laid-front before at text k))
+
 -- appending keeps the buffer's length
 pub appended-length : (room : ℕ) (text before : List ℕ) (at : ℕ) (after : List ℕ) (next : ℕ) → Appended room text before at after next → length after ≡ length before
 appended-length room text before at after next a =
