@@ -1,1 +1,2 @@
+mod Repeats
 pub mod Table

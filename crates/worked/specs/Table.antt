@@ -1,4 +1,4 @@
--- 01's "Numbers worked out" that are to be proved (P): one table, one theorem, computed by the checker from the definitions of `numbers`.
+-- 01's "Numbers worked out" that are to be proved (P): one table, one theorem, computed by the checker from the definitions of `numbers` and `rules`.
 -- A value is compared as its bits, so that 0.0 and -0.0 differ. A new kind of case is one constructor, one clause of `right` and its rows. Assumes nothing.
 use mathlib.Core.Path.{_≡_, refl}
 use mathlib.Core.Bool.{Bool, true, false, _&&_}
@@ -10,13 +10,16 @@ use lib.Ieee as Ieee
 use lib.Ieee.{Float, binary32}
 use Rattle.numbers.specs.Scale.{axisValueOf, buttonValueOf, thresholdOf}
 use Rattle.numbers.specs.Deadzone.{deadzoneOf}
+use Rattle.worked.specs.Repeats.{held, repeats}
 
--- what is asked of min, max and a raw value, or of a pair and a threshold; and last the bits that 01 gives
+-- what is asked of min, max and a raw value, or of a pair and a threshold, and last the bits that 01 gives; or of a button held since a time, after, every
+-- and now, and last the repeats
 pub data Case : Type 0 where
   axis : ℤ → ℤ → ℤ → ℕ → Case
   trigger : ℤ → ℤ → ℤ → ℕ → Case
   threshold : ℤ → ℤ → ℕ → ℕ → Case
   deadzone : ℕ → ℕ → ℕ → ℕ → ℕ → Case
+  repeat : ℕ → ℕ → ℕ → ℕ → ℕ → Case
 
 abbrev pub value : ℕ → Float
 value bits = Ieee.ofBits binary32 bits
@@ -24,12 +27,17 @@ value bits = Ieee.ofBits binary32 bits
 abbrev pub gives : Float → ℕ → Bool
 gives x bits = eqb (Ieee.toBits binary32 x) bits
 
+-- more repeats than the table has
+abbrev pub enough : ℕ
+enough = 20
+
 abbrev pub right : Case → Bool
 right (axis min max raw bits) = gives (axisValueOf min max false raw) bits
 right (trigger min max raw bits) = gives (buttonValueOf min max raw) bits
 right (threshold min max size bits) = gives (thresholdOf min max size) bits
 right (deadzone x y t left up) =
     gives (deadzoneOf (value x) (value y) (value t) .x) left && gives (deadzoneOf (value x) (value y) (value t) .y) up
+right (repeat since after every now count) = eqb (repeats enough (held since) after every now) count
 
 abbrev pub all : List Case → Bool
 all [] = true
@@ -82,8 +90,11 @@ table =
     ∷ deadzone quarter zero quarter zero zero
     ∷ deadzone three-quarters zero half half zero
     ∷ deadzone one one half one one
+    -- held since 0, after 500, every 30: now 1,000 and now 499
+    ∷ repeat 0 500 30 1000 17
+    ∷ repeat 0 500 30 499 0
     ∷ []
 
 pub worked : all table ≡ true
-unfolding axisValueOf buttonValueOf thresholdOf deadzoneOf Ieee.toBits Ieee.ofBits Ieee.ofInt Ieee.add Ieee.sub Ieee.mul Ieee.div Ieee.lt Ieee.le
+unfolding held repeats axisValueOf buttonValueOf thresholdOf deadzoneOf Ieee.toBits Ieee.ofBits Ieee.ofInt Ieee.add Ieee.sub Ieee.mul Ieee.div Ieee.lt Ieee.le
 worked = refl

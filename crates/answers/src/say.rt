@@ -1,0 +1,161 @@
+// The line of each answer, appended to the text.
+use lines::NEWLINE;
+use lines::SPACE;
+use rules::Answer;
+use rules::AxisAnswer;
+use rules::AxisData;
+use rules::ButtonAnswer;
+use rules::ButtonData;
+use rules::NumberAnswer;
+use rules::PumpAnswer;
+use rules::RegisterAnswer;
+use rules::RepeatAnswer;
+use rules::TruthAnswer;
+use rules::ValueAnswer;
+
+fn bit(b: bool) -> u64 {
+    if b { 1 } else { 0 }
+}
+
+pub fn refused(text: &mut [u8], at: usize, number: u8) -> usize {
+    lines::labelled(text, at, b"REFUSED ", number as u64, NEWLINE)
+}
+
+fn absent(text: &mut [u8], at: usize) -> usize {
+    lines::append(text, at, b"ABSENT\n")
+}
+
+pub fn truth(text: &mut [u8], at: usize, label: &[u8], b: bool) -> usize {
+    lines::labelled(text, at, label, bit(b), NEWLINE)
+}
+
+fn bits(text: &mut [u8], at: usize, label: &[u8], v: f32, end: u8) -> usize {
+    let next = lines::append(text, at, label);
+    lines::hex(text, next, binary32::bits_of(v), end)
+}
+
+// ---- records
+
+pub fn button_words(text: &mut [u8], at: usize, label: &[u8], b: ButtonData) -> usize {
+    let pressed = bits(text, at, label, b.value, SPACE);
+    let repeating = lines::number(text, pressed, bit(b.pressed), SPACE);
+    let counter = lines::number(text, repeating, bit(b.repeating), SPACE);
+    let stamp = lines::number(text, counter, b.counter, SPACE);
+    lines::number(text, stamp, b.stamp, NEWLINE)
+}
+
+pub fn axis_words(text: &mut [u8], at: usize, label: &[u8], a: AxisData) -> usize {
+    let counter = bits(text, at, label, a.value, SPACE);
+    let stamp = lines::number(text, counter, a.counter, SPACE);
+    lines::number(text, stamp, a.stamp, NEWLINE)
+}
+
+// ---- the answers of the calls
+
+pub fn done(text: &mut [u8], at: usize, word: &[u8], answer: Answer) -> usize {
+    match answer {
+        Answer::Done => lines::append(text, at, word),
+        Answer::Refused(number) => refused(text, at, number),
+    }
+}
+
+pub fn registered(text: &mut [u8], at: usize, answer: RegisterAnswer) -> usize {
+    match answer {
+        RegisterAnswer::Pad(p) => lines::labelled(text, at, b"PAD ", p as u64, NEWLINE),
+        RegisterAnswer::Refused(number) => refused(text, at, number),
+    }
+}
+
+// The place, the events written and the steps of a pump.
+fn stopped(text: &mut [u8], at: usize, place: usize, count: usize, steps: usize) -> usize {
+    let events = lines::number(text, at, place as u64, SPACE);
+    let made = lines::number(text, events, count as u64, SPACE);
+    lines::number(text, made, steps as u64, NEWLINE)
+}
+
+// Each event of the out buffer, then how the pump ended.
+pub fn pumped(text: &mut [u8], at: usize, out: &[u8], answer: PumpAnswer) -> usize {
+    match answer {
+        PumpAnswer::Drained(place, count, steps) => {
+            let last = lines::lines(text, at, out, count);
+            let next = lines::append(text, last, b"DRAINED ");
+            stopped(text, next, place, count, steps)
+        }
+        PumpAnswer::Full(place, count, steps) => {
+            let last = lines::lines(text, at, out, count);
+            let next = lines::append(text, last, b"FULL ");
+            stopped(text, next, place, count, steps)
+        }
+        PumpAnswer::Paused(place, count, steps) => {
+            let last = lines::lines(text, at, out, count);
+            let next = lines::append(text, last, b"PAUSED ");
+            stopped(text, next, place, count, steps)
+        }
+        PumpAnswer::Refused(number, place, count, steps) => {
+            let last = lines::lines(text, at, out, count);
+            let next = lines::labelled(text, last, b"REFUSED ", number as u64, SPACE);
+            stopped(text, next, place, count, steps)
+        }
+    }
+}
+
+pub fn repeated(text: &mut [u8], at: usize, answer: RepeatAnswer) -> usize {
+    match answer {
+        RepeatAnswer::Due(e) => lines::line(text, at, events::form_of(e)),
+        RepeatAnswer::Quiet => lines::append(text, at, b"NONE\n"),
+        RepeatAnswer::Refused(number) => refused(text, at, number),
+    }
+}
+
+// ---- the answers of the queries
+
+pub fn is(text: &mut [u8], at: usize, label: &[u8], answer: TruthAnswer) -> usize {
+    match answer {
+        TruthAnswer::Is(b) => truth(text, at, label, b),
+        TruthAnswer::Refused(number) => refused(text, at, number),
+    }
+}
+
+pub fn value(text: &mut [u8], at: usize, label: &[u8], answer: ValueAnswer) -> usize {
+    match answer {
+        ValueAnswer::Value(v) => bits(text, at, label, v, NEWLINE),
+        ValueAnswer::Absent => absent(text, at),
+        ValueAnswer::Refused(number) => refused(text, at, number),
+    }
+}
+
+pub fn button(text: &mut [u8], at: usize, answer: ButtonAnswer) -> usize {
+    match answer {
+        ButtonAnswer::Data(b) => button_words(text, at, b"BUTTON ", b),
+        ButtonAnswer::Absent => absent(text, at),
+        ButtonAnswer::Refused(number) => refused(text, at, number),
+    }
+}
+
+pub fn stick(text: &mut [u8], at: usize, answer: AxisAnswer) -> usize {
+    match answer {
+        AxisAnswer::Data(a) => axis_words(text, at, b"STICK ", a),
+        AxisAnswer::Absent => absent(text, at),
+        AxisAnswer::Refused(number) => refused(text, at, number),
+    }
+}
+
+// 255 where the code has no name.
+pub fn name(text: &mut [u8], at: usize, answer: NumberAnswer) -> usize {
+    match answer {
+        NumberAnswer::Number(n) => lines::labelled(text, at, b"NAME ", n as u64, NEWLINE),
+        NumberAnswer::Absent => lines::append(text, at, b"NAME 255\n"),
+        NumberAnswer::Refused(number) => refused(text, at, number),
+    }
+}
+
+pub fn code(text: &mut [u8], at: usize, answer: NumberAnswer) -> usize {
+    match answer {
+        NumberAnswer::Number(n) => {
+            let next = lines::append(text, at, b"CODE ");
+            lines::hex(text, next, n, NEWLINE)
+        }
+        NumberAnswer::Absent => absent(text, at),
+        NumberAnswer::Refused(number) => refused(text, at, number),
+    }
+}
