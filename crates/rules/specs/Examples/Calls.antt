@@ -18,7 +18,7 @@ use Rattle.rules.specs.Hub.{placeIn, touchedAt, movedAt, axisAt}
 use Rattle.rules.specs.Places.{placeOf}
 use Rattle.rules.specs.Calls.{newOf, registerOf, renameOf, updateOf, insertOf, incOf, resetOf}
 use Rattle.rules.specs.Examples.Table.{_is_, Right, button, event, half32, threeQuarters32}
-use Rattle.rules.specs.Examples.Desk.{bare, desk, south, stickX, hatX, raw, press, disconnect, pump, after, tells, told, eventsBytes}
+use Rattle.rules.specs.Examples.Desk.{bare, desk, south, stickX, hatX, raw, press, disconnect, pump, after, tells, told, eventsBytes, given}
 
 -- ---- new
 
@@ -32,6 +32,24 @@ new-refused :
     Right (newOf half32 half32 true true true .hub .filters is false ∷ newOf half32 half32 true true true .hub .updates is false ∷ [])
 unfolding newOf Ieee.ofBits Ieee.lt Ieee.le
 new-refused = refl
+
+-- what `new` is given is what the hub keeps
+kept-thresholds :
+    Right (
+    newOf threeQuarters32 half32 true false true .hub .pressed is threeQuarters32
+    ∷ newOf threeQuarters32 half32 true false true .hub .released is half32
+    ∷ [])
+unfolding newOf Ieee.ofBits Ieee.lt Ieee.le
+kept-thresholds = refl
+
+kept-marks :
+    Right (
+    newOf threeQuarters32 half32 true false true .hub .reversed is true
+    ∷ newOf threeQuarters32 half32 true false true .hub .filters is false
+    ∷ newOf threeQuarters32 half32 true false true .hub .updates is true
+    ∷ [])
+unfolding newOf Ieee.ofBits Ieee.lt Ieee.le
+kept-marks = refl
 
 -- ---- register: "Pads 0..3, registered in that order"; 2: "four pads stand", before 3
 
@@ -62,6 +80,31 @@ register-refused = refl
 stands : Right (blank 2 .connected is (true ∷ true ∷ false ∷ false ∷ []) ∷ blank 2 .converts is (true ∷ true ∷ false ∷ false ∷ []) ∷ [])
 unfolding blank bare registerOf sheetBytes
 stands = refl
+
+-- whether a pad converts is told by its own places: pad 1 has a button named DPadRight, and pad 0 has none; and the other way round
+own-right : List ℕ
+own-right = sheetBytes 0 (button 1 dpadRight ∷ [])
+
+converts :
+    Right (
+    registerOf (blank 1) own-right .hub .converts is (true ∷ false ∷ false ∷ false ∷ [])
+    ∷ registerOf (registerOf (blank 0) own-right .hub) (sheetBytes 0 []) .hub .converts is (false ∷ true ∷ false ∷ false ∷ [])
+    ∷ renameOf (registerOf (blank 1) own-right .hub) 1 (255 ∷ []) .hub .reconverts is (false ∷ true ∷ false ∷ false ∷ [])
+    ∷ [])
+unfolding own-right blank bare registerOf renameOf sheetBytes
+converts = refl
+
+-- a further pad leaves the state of those before it
+pressed-before : Hub
+pressed-before = given (desk true true) (event 5 (Pressed 1 south) ∷ event 5 (Axis 33 stickX one32) ∷ [])
+
+keeps-state :
+    Right (
+    touchedAt (registerOf pressed-before (sheetBytes 0 []) .hub) (placeIn pressed-before 0 south) is true
+    ∷ movedAt (registerOf pressed-before (sheetBytes 0 []) .hub) (placeIn pressed-before 0 stickX) is true
+    ∷ [])
+unfolding pressed-before given desk registerOf sheetBytes placeOf
+keeps-state = refl
 
 -- ---- rename: "Rename: 6, 7, 3, 4, 5"
 

@@ -57,6 +57,8 @@ answers :
     ∷ repeatOf held 0 1 0 is Due (event 0 (Repeated 1 south))
     ∷ repeatOf held 500 0 1000 is Refused 15
     ∷ repeatOf held 500 30 0x4000000000000000 is Refused 12
+    ∷ repeatOf held 500 0x4000000000000000 1000 is Refused 15
+    ∷ repeatOf held 0x4000000000000000 30 1000 is Refused 15
     ∷ [])
 unfolding held repeated given desk repeatOf
 answers = refl

@@ -1,21 +1,23 @@
 -- Steps, as pumps of a few records: what is taken, filtered, queued and stored; Connected and Disconnected. Assumes nothing.
+use Prim.Native.Nat.{ℕ, zero, suc, _+_}
 use mathlib.Core.Path.{_≡_, refl}
 use mathlib.Core.Bool.{Bool, true, false}
-use mathlib.Core.List.{[], _∷_, _++_}
+use mathlib.Core.List.{List, [], _∷_, _++_}
 use lib.ListN.{getD, replicate}
 use lib.IntN.{pos, negsuc}
 use lib.Ieee.{binary32, ofBits}
 use Rattle.numbers.specs.Constants.{zero32, one32, minusOne32}
 use Rattle.rules.specs.declared.Hub.{Hub}
+use Rattle.rules.specs.declared.SheetElement.{SheetElement}
 use Rattle.rules.specs.declared.EventType.the-variants.{Pressed, Changed, Axis, Disconnected, Dropped}
 use Rattle.rules.specs.declared.PumpAnswer.the-variants.{Drained}
 use Rattle.rules.specs.declared.TruthAnswer.the-variants as truthAnswer
 use Rattle.rules.specs.declared.ButtonAnswer.the-variants as buttonAnswer
 use Rattle.rules.specs.declared.AxisAnswer.the-variants as axisAnswer
-use Rattle.rules.specs.Names.{codeRight, dpadRight, dpadX}
+use Rattle.rules.specs.Names.{codeUp, codeRight, dpadRight, dpadX}
 use Rattle.rules.specs.Sheets.{sheetBytes}
 use Rattle.rules.specs.Calls.{registerOf, insertOf, incOf, renameOf}
-use Rattle.rules.specs.Hub.{convertsNow, hatsNow}
+use Rattle.rules.specs.Hub.{convertsNow, hatsNow, touchedAt, movedAt}
 use Rattle.rules.specs.Step.{headAfter}
 use Rattle.rules.specs.Queries.{pressedByCode, connectedOf, buttonByCode, axisByCode, nameByCode}
 use Rattle.rules.specs.declared.NumberAnswer.the-variants as numberAnswer
@@ -168,6 +170,43 @@ pressedBoth = after (given twoPads (record { pad = 1; time = 5; event = Pressed 
 other-pad : Right (pressedByCode pressedBoth 1 south is truthAnswer.Is true ∷ pressedByCode pressedBoth 0 south is truthAnswer.Is false ∷ [])
 unfolding pressedBoth given twoPads after raw pressedByCode
 other-pad = refl
+
+-- the whole pad: 48 elements and the four directions fill its 52 places, and the first and the last lose their marks
+first-button : ℕ
+first-button = 0x00010230
+
+last-button : ℕ
+last-button = first-button + 47
+
+rising : ℕ → ℕ → List SheetElement
+rising zero code = []
+rising (suc n) code = button code 255 ∷ rising n (code + 1)
+
+full-pad : Hub
+full-pad = registerOf (bare true true) (sheetBytes 0 (rising 48 first-button)) .hub
+
+full-given : Hub
+full-given = given full-pad (event 5 (Pressed 0 codeUp) ∷ event 5 (Pressed 0 last-button) ∷ event 5 (Axis 33 last-button one32) ∷ [])
+
+full-cleared :
+    Right (
+    touchedAt full-given 0 is true
+    ∷ touchedAt full-given 51 is true
+    ∷ movedAt full-given 51 is true
+    ∷ touchedAt (after full-given (connect 6)) 0 is false
+    ∷ touchedAt (after full-given (connect 6)) 51 is false
+    ∷ movedAt (after full-given (connect 6)) 51 is false
+    ∷ [])
+unfolding full-given full-pad rising last-button first-button given after bare registerOf sheetBytes raw
+full-cleared = refl
+
+-- and the last of its six deadzone flags, RightStickY's
+right-stick : Hub
+right-stick = after (registerOf (bare true true) (sheetBytes 0 (axis stickY 37 (negsuc 3) (pos 4) 2 ∷ [])) .hub) (move stickY (pos 4) 6)
+
+last-flag : Right (getD (right-stick .flags) 5 false is true ∷ getD (after right-stick (connect 7) .flags) 5 true is false ∷ [])
+unfolding right-stick after bare registerOf sheetBytes raw
+last-flag = refl
 
 -- ---- "and the names and hats of the registered sheet (000 loads the mapping afresh, so a rename is lost)"
 
