@@ -1,8 +1,8 @@
 -- The rows of a sheet written into a hub's columns, place by place: one law for each turn of the loop, and what is left at its end. Assumes nothing.
 use Prim.Native.Nat.{ℕ, zero, suc, _+_, _-_, _*_, _≤_, _<_}
-use mathlib.Core.Path.{_≡_, refl, sym, _∙_, ap}
+use mathlib.Core.Path.{_≡_, refl, ap}
 use mathlib.Core.List.{List, [], _∷_, map}
-use lib.ListN.{length, length-map, getD, set, drop, drop-of-length-le}
+use lib.ListN.{length, getD, set, drop, drop-of-length-le}
 use lib.Seq.{drop-cons}
 use native.Mathlib.Numerals.{add-one}
 use native.Mathlib.Omega.{arith}
@@ -97,7 +97,3 @@ lay-one h k i rows l er ep =
 pub lay-done : (h : Hub) (k i : ℕ) (rows : List Row) → length rows ≤ i → h ≡ laidHub h k (drop i rows)
 unfolding laidHub
 lay-done h k i rows l = rw (drop-of-length-le rows {i = i} l)
-
--- the length of an array of structs, as the checker knows it, is its list's
-pub unmapped : {A B : Type 0} (f : A → B) (l : List A) (n : ℕ) → length (map f l) ≡ n → length l ≡ n
-unmapped f l n e = sym (length-map l f) ∙ e

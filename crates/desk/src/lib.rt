@@ -112,12 +112,6 @@ pub fn new_hub(
 
 // ---- register
 
-fn wide(x: u8) -> usize
-    ensures { λ r. ⌜ (r ≡ x) × (r < 256) ⌝ }
-{
-    x as usize
-}
-
 // Past the end nothing is set.
 fn set_in(numbers: &mut [u8], at: usize, v: u8)
     ensures { λ _. ⌜ now (numbers .exit) ≡ set (now (numbers .entry)) at v ⌝ }
@@ -159,7 +153,7 @@ fn registered(h: Hub, p: u8, hats: u8, count: u8, rows: [Row; 52]) -> Hub
     requires { ⌜ p < 4 ⌝ }
     ensures { λ r. ⌜ r ≡ registeredAt h p hats count rows ⌝ }
 {
-    let start = PLACES_PER_PAD * wide(p);
+    let start = PLACES_PER_PAD * choices::wide(p);
     let mut g = laid_out(h, start, rows);
     let converts = pad::converts(hats, &g.codes, &g.names, p);
     g.pads = p + 1;
@@ -170,7 +164,11 @@ fn registered(h: Hub, p: u8, hats: u8, count: u8, rows: [Row; 52]) -> Hub
     pad::mark_pad(&mut g.renamed, p, false);
     pad::clear(&mut g.touched, start, PLACES_PER_PAD);
     pad::clear(&mut g.moved, start, PLACES_PER_PAD);
-    pad::clear_flags(&mut g.flags, FLAGS_PER_PAD * wide(p), FLAGS_PER_PAD);
+    pad::clear_flags(
+        &mut g.flags,
+        FLAGS_PER_PAD * choices::wide(p),
+        FLAGS_PER_PAD,
+    );
     g
 }
 

@@ -24,7 +24,7 @@ pub fn jittered(v: View, e: Event) -> Event
     let t = e.event;
     match t {
         EventType::Axis(_, _, x) => {
-            if hats::both(v.stored, scale::jitters(x, v.stick)) {
+            if choices::both(v.stored, scale::jitters(x, v.stick)) {
                 return hats::dropped(e);
             }
             e
@@ -78,11 +78,11 @@ fn clears_partner(v: View, pair: Pair) -> bool
 {
     let p = v.partner;
     let f = v.flags;
-    hats::both(
+    choices::both(
         p.stands,
-        hats::both(
+        choices::both(
             pair.x == 0.0,
-            hats::both(pair.y == 0.0, hats::both(f.partner, p.value != 0.0)),
+            choices::both(pair.y == 0.0, choices::both(f.partner, p.value != 0.0)),
         ),
     )
 }
@@ -111,7 +111,7 @@ fn stick(v: View, e: Event, n: u8, c: u32, pair: Pair) -> Zoned
         clearing: clearing,
         flags: Flags {
             own: own_flag(same, f.own, x != 0.0),
-            partner: hats::both(f.partner, !clears),
+            partner: choices::both(f.partner, !clears),
         },
     }
 }

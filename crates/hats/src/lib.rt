@@ -1,6 +1,6 @@
 // A hat's axis as the buttons of its directions: 000's `axis_dpad_to_button`, on what it sees of the hub.
 ghost use mathlib.Core.Path.{_≡_};
-ghost use mathlib.Core.Bool.{true, false, _&&_};
+ghost use mathlib.Core.Bool.{true, false};
 ghost use Rattle.rules.specs.Events as events;
 ghost use Rattle.rules.specs.Filters.{hatBy, hatGives};
 ghost use Rattle.hats.specs.Post.{Converted, direction};
@@ -8,14 +8,6 @@ use rules::Event;
 use rules::EventType;
 use rules::Gives;
 use rules::View;
-
-// ---- tests
-
-pub fn both(a: bool, b: bool) -> bool
-    ensures { λ r. ⌜ r ≡ (a && b) ⌝ }
-{
-    if a { b } else { false }
-}
 
 // ---- an event of the same pad and time, and what is queued behind one
 
@@ -140,7 +132,7 @@ pub fn dpad(v: View, e: Event) -> Gives
     let t = e.event;
     match t {
         EventType::Axis(n, _, x) => {
-            if both(v.converts, names::is_hat(n)) {
+            if choices::both(v.converts, names::is_hat(n)) {
                 return hat(v, e, n, x);
             }
             alone(e)

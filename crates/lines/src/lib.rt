@@ -10,7 +10,7 @@ use events::EVENT_REPEATED;
 use rules::EventForm;
 use wire::EVENT_SIZE;
 ghost use mathlib.Core.Path.{_≡_};
-ghost use Prim.Native.Nat.{_+_, _*_, _≤_, min};
+ghost use Prim.Native.Nat.{_+_, _*_, _≤_};
 ghost use mathlib.Core.List.{_++_};
 ghost use lib.ListN.{length};
 ghost use lib.Dec.{leb};
@@ -173,17 +173,11 @@ pub fn fields(s: &[u8]) -> EventForm
     }
 }
 
-fn least(a: usize, b: usize) -> usize
-    ensures { λ r. ⌜ r ≡ min a b ⌝ }
-{
-    if a < b { a } else { b }
-}
-
 // The lines of the first events of an out buffer, as many as `count` says and the buffer holds.
 pub fn lines(out: &mut [u8], at: usize, events: &[u8], count: usize) -> usize
     ensures { λ r. ⌜ Appended (94 * heldOf (now (events .entry)) count) (linesOf (now (events .entry)) (heldOf (now (events .entry)) count)) (now (out .entry)) at (now (out .exit)) r ⌝ }
 {
-    let held = least(count, events.len() / EVENT_SIZE);
+    let held = choices::least(count, events.len() / EVENT_SIZE);
     if out.len() < at {
         return at;
     }

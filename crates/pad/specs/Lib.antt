@@ -1,3 +1,4 @@
+pub mod Arrays
 pub mod Found
 pub mod Search
 pub mod Lookup

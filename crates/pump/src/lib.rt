@@ -1,6 +1,5 @@
 // Document 01's pump: 000's `next_event_inner` as a loop that ends at a stop, an allowance of steps, and events written as bytes.
 ghost use mathlib.Core.Path.{_≡_};
-ghost use Prim.Native.Nat.{_<_};
 ghost use Rattle.rules.specs.Pump.{pumpOf};
 ghost use Rattle.steps.specs.Runs.{leaves};
 use rules::Hub;
@@ -12,12 +11,6 @@ const EVENT_SIZE: usize = 22;
 const PLACES_PER_PAD: usize = 52;
 
 const FLAGS_PER_PAD: usize = 6;
-
-fn wide(x: u8) -> usize
-    ensures { λ r. ⌜ (r ≡ x) × (r < 256) ⌝ }
-{
-    x as usize
-}
 
 pub fn pump(hub: Hub, batch: &[u8], place: usize, out: &mut [u8], allowance: u16) -> Pumped
     ensures { λ r. ⌜ leaves r (now (out .exit)) ≡ pumpOf hub (now (batch .entry)) place (now (out .entry)) allowance ⌝ }
@@ -87,7 +80,7 @@ pub fn pump(hub: Hub, batch: &[u8], place: usize, out: &mut [u8], allowance: u16
                 h.reversed,
             );
             // commit: the marks of a taken record, the ring, the place
-            let p = wide(raw.pad);
+            let p = choices::wide(raw.pad);
             let marks = turn::join_run(raw.kind, PLACES_PER_PAD);
             let flags = turn::join_run(raw.kind, FLAGS_PER_PAD);
             turn::connect(&mut h.connected, raw.pad, raw.kind);

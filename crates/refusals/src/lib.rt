@@ -33,26 +33,6 @@ const ELEMENT_BUTTON: u8 = 1;
 
 const ELEMENT_AXIS: u8 = 2;
 
-// ---- two tests at once, and a choice, as values: a branch would leave two ways to the same place
-
-fn both(a: bool, b: bool) -> bool
-    ensures { λ r. ⌜ r ≡ (a && b) ⌝ }
-{
-    if a { b } else { false }
-}
-
-fn either(a: bool, b: bool) -> bool
-    ensures { λ r. ⌜ r ≡ (a || b) ⌝ }
-{
-    if a { true } else { b }
-}
-
-fn chosen(test: bool, number: u8, other: u8) -> u8
-    ensures { λ r. ⌜ r ≡ cond test number other ⌝ }
-{
-    if test { number } else { other }
-}
-
 // ---- in order: a number where the input does not fit, and the first number that there is
 
 pub fn unless_fits(fits: bool, number: u8) -> u8
@@ -72,16 +52,16 @@ pub fn first(a: u8, b: u8) -> u8
 fn in_unit(x: f32) -> bool
     ensures { λ r. ⌜ r ≡ inUnit x ⌝ }
 {
-    both(0.0 <= x, x <= 1.0)
+    choices::both(0.0 <= x, x <= 1.0)
 }
 
 pub fn thresholds_refusal(pressed: f32, released: f32) -> u8
     ensures { λ r. ⌜ r ≡ thresholdsRefusal pressed released ⌝ }
 {
-    chosen(
-        both(
+    choices::chosen(
+        choices::both(
             in_unit(pressed),
-            both(in_unit(released), released < pressed),
+            choices::both(in_unit(released), released < pressed),
         ),
         0,
         1,
@@ -93,7 +73,7 @@ pub fn thresholds_refusal(pressed: f32, released: f32) -> u8
 pub fn stands(pads: u8, p: u8) -> bool
     ensures { λ r. ⌜ r ≡ standsOf pads p ⌝ }
 {
-    both(p < pads, p < PADS)
+    choices::both(p < pads, p < PADS)
 }
 
 // ---- 11 and 12
@@ -116,16 +96,20 @@ pub fn time_fits(time: u64) -> bool
 fn spoken(kind: u8) -> u8
     ensures { λ r. ⌜ r ≡ cond (eqb kind 3) 2 1 ⌝ }
 {
-    chosen(kind == KIND_AXIS, ELEMENT_AXIS, ELEMENT_BUTTON)
+    choices::chosen(kind == KIND_AXIS, ELEMENT_AXIS, ELEMENT_BUTTON)
 }
 
 fn element_refusal(recordkind: u8, kind: u8) -> u8
     ensures { λ r. ⌜ r ≡ elementRefusal recordkind kind ⌝ }
 {
-    chosen(
+    choices::chosen(
         KIND_AXIS < recordkind,
         0,
-        chosen(kind == 0, 9, chosen(kind == spoken(recordkind), 0, 10)),
+        choices::chosen(
+            kind == 0,
+            9,
+            choices::chosen(kind == spoken(recordkind), 0, 10),
+        ),
     )
 }
 
@@ -156,7 +140,7 @@ pub fn record_refusal(l: Looked, pads: u8, kind: u8) -> u8
 fn code_refusal(kind: u8, place: usize) -> u8
     ensures { λ r. ⌜ r ≡ codeRefusal kind place ⌝ }
 {
-    chosen(EVENT_AXIS < kind, 0, unless_fits(place < NOWHERE, 9))
+    choices::chosen(EVENT_AXIS < kind, 0, unless_fits(place < NOWHERE, 9))
 }
 
 pub fn form_refusal(f: EventForm, pads: u8, place: usize) -> u8
@@ -188,10 +172,10 @@ pub fn insert_refusal(f: EventForm, pads: u8, place: usize, waiting: u8) -> u8
 pub fn pump_refusal(batch: usize, out: usize, place: usize) -> u8
     ensures { λ r. ⌜ r ≡ pumpRefusal batch out place ⌝ }
 {
-    chosen(
-        either(BUFFER_LIMIT < batch, BUFFER_LIMIT < out),
+    choices::chosen(
+        choices::either(BUFFER_LIMIT < batch, BUFFER_LIMIT < out),
         14,
-        chosen(batch < place, 8, 0),
+        choices::chosen(batch < place, 8, 0),
     )
 }
 
@@ -200,7 +184,10 @@ pub fn pump_refusal(batch: usize, out: usize, place: usize) -> u8
 pub fn repeat_refusal(after: u64, every: u64, now: u64) -> u8
     ensures { λ r. ⌜ r ≡ repeatRefusal after every now ⌝ }
 {
-    let fits = both(after <= LAST_WAIT, both(1 <= every, every <= LAST_WAIT));
+    let fits = choices::both(
+        after <= LAST_WAIT,
+        choices::both(1 <= every, every <= LAST_WAIT),
+    );
     first(unless_fits(fits, 15), unless_fits(time_fits(now), 12))
 }
 
@@ -237,6 +224,6 @@ pub fn name_query_refusal(pads: u8, p: u8, name: u8) -> u8
     named_refusal(
         pads,
         p,
-        either(names::names_button(name), names::names_axis(name)),
+        choices::either(names::names_button(name), names::names_axis(name)),
     )
 }

@@ -3,8 +3,6 @@ use answers::dump;
 use answers::say;
 use lines::NEWLINE;
 use rules::Hub;
-ghost use mathlib.Core.Path.{_≡_};
-ghost use Prim.Native.Nat.{min};
 
 // the opcodes, in the order of `oracle/README.md`
 pub const NEW: u8 = 1;
@@ -88,12 +86,6 @@ fn rename(h: Hub, payload: &[u8], text: &mut [u8], at: usize) -> Told {
     Told { hub, at: next }
 }
 
-fn least(a: usize, b: usize) -> usize
-    ensures { λ r. ⌜ r ≡ min a b ⌝ }
-{
-    if a < b { a } else { b }
-}
-
 // Place 4, out size 4, allowance 2, the batch. An out size over the longest buffer is refused whatever it is, so the longest one stands for it.
 fn pump(h: Hub, payload: &[u8], out: &mut [u8], text: &mut [u8], at: usize) -> Told {
     if payload.len() < 10 {
@@ -101,7 +93,7 @@ fn pump(h: Hub, payload: &[u8], out: &mut [u8], text: &mut [u8], at: usize) -> T
         return Told { hub: h, at: next };
     }
     let place = wire::read4(payload, 0) as usize;
-    let size = least(wire::read4(payload, 4) as usize, out.len());
+    let size = choices::least(wire::read4(payload, 4) as usize, out.len());
     let r = pump::pump(
         h,
         &payload[10..],

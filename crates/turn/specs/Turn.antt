@@ -1,14 +1,14 @@
 -- What a turn answers where a caller needs more than an equation: a ring's place with its bound, and the events to push as a part of an array, with the
 -- law that the part is the law book's list. Assumes nothing.
 use Prim.Native.Nat.{ℕ, zero, suc, _+_, _-_, _≤_, _<_}
-use mathlib.Core.Path.{_≡_, refl, sym, _∙_}
+use mathlib.Core.Path.{_≡_, refl}
 use mathlib.Core.Bool.{Bool, true, false, cond}
-use mathlib.Core.List.{List, [], _∷_, map}
+use mathlib.Core.List.{List, [], _∷_}
 use native.Mathlib.Numerals.{add-one}
 use native.Mathlib.Omega.{arith}
 use lib.Dec.{ltb}
 use lib.Ieee.{Float}
-use lib.ListN.{length, length-map, getD, take, drop}
+use lib.ListN.{length, getD, take, drop}
 use Rattle.rules.specs.declared.Event.{Event}
 use Rattle.rules.specs.declared.Slot.{Slot}
 use Rattle.rules.specs.declared.RawRecord.{RawRecord}
@@ -63,7 +63,3 @@ pushes-are past d g long = rw (four past (g .queued) long, add-one) (go (d .foll
 pub first-small : (follows : Bool) (n : ℕ) → cond follows 0 1 ≤ n + 1
 first-small true n = omega arith
 first-small false n = omega arith
-
--- the length of an array of structs, as the checker knows it, is its list's
-pub unmapped : {A B : Type 0} (f : A → B) (l : List A) (n : ℕ) → length (map f l) ≡ n → length l ≡ n
-unmapped f l n e = sym (length-map l f) ∙ e

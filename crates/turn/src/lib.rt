@@ -43,26 +43,18 @@ const PAUSED: u8 = 3;
 
 // ---- before a step
 
-fn chosen(test: bool, number: u8, other: u8) -> u8
-    ensures { λ r. ⌜ r ≡ cond test number other ⌝ }
-{
-    if test { number } else { other }
-}
-
-fn both(a: bool, b: bool) -> bool
-    ensures { λ r. ⌜ r ≡ (a && b) ⌝ }
-{
-    if a { b } else { false }
-}
-
 // Drained, Full, Paused, in this order, or to go on.
 pub fn stop(waiting: u8, rest: usize, room: usize, left: usize) -> u8
     ensures { λ r. ⌜ r ≡ stopOf waiting rest room left ⌝ }
 {
-    chosen(
-        both(waiting == 0, rest == 0),
+    choices::chosen(
+        choices::both(waiting == 0, rest == 0),
         DRAINED,
-        chosen(room < EVENT_SIZE, FULL, chosen(left == 0, PAUSED, GO_ON)),
+        choices::chosen(
+            room < EVENT_SIZE,
+            FULL,
+            choices::chosen(left == 0, PAUSED, GO_ON),
+        ),
     )
 }
 
@@ -83,7 +75,7 @@ pub fn stop_answer(why: u8, place: usize, events: usize, steps: usize) -> PumpAn
 pub fn refusal(waiting: u8, l: Looked, pads: u8, kind: u8) -> u8
     ensures { λ r. ⌜ r ≡ cond (ltb 0 waiting) 0 (recordRefusal l pads kind) ⌝ }
 {
-    chosen(0 < waiting, 0, refusals::record_refusal(l, pads, kind))
+    choices::chosen(0 < waiting, 0, refusals::record_refusal(l, pads, kind))
 }
 
 // ---- what is taken
@@ -171,17 +163,11 @@ pub fn fewer(waiting: u8) -> u8
     if 0 < waiting { waiting - 1 } else { 0 }
 }
 
-fn wide(x: u8) -> usize
-    ensures { λ r. ⌜ (r ≡ x) × (r < 256) ⌝ }
-{
-    x as usize
-}
-
 // Where the next event goes.
 pub fn free(head: u8, waiting: u8) -> usize
     ensures { λ r. ⌜ RingIs (slotAt head waiting) r ⌝ }
 {
-    (wide(head) + wide(waiting)) % 64
+    (choices::wide(head) + choices::wide(waiting)) % 64
 }
 
 pub fn longer(waiting: u8) -> u8
@@ -225,7 +211,7 @@ pub fn pushed(d: Dispatched, g: Gives) -> Pushes
     let q = g.queued;
     Pushes {
         start: first_pushed(d.follows),
-        end: wide(g.count) + 1,
+        end: choices::wide(g.count) + 1,
         events: [n, q[0], q[1], q[2], q[3]],
     }
 }
@@ -256,5 +242,9 @@ pub fn axis_written(on: bool, e: Event, a: AxisData, counter: u64) -> AxisData
 pub fn known_after(known: bool, on: bool, writes: bool) -> bool
     ensures { λ r. ⌜ r ≡ (known || (on && writes)) ⌝ }
 {
-    if known { true } else { both(on, writes) }
+    if known {
+        true
+    } else {
+        choices::both(on, writes)
+    }
 }

@@ -5,7 +5,8 @@ use lib.ListN.{length, drop}
 use native.Mathlib.Nat.{add-zero}
 use native.Mathlib.Omega.{arith}
 use borrow.Author.Needs.{needs}
-use Rattle.desk.specs.Laid.{laidHub, lay-one, lay-done, unmapped}
+use Rattle.pad.specs.Arrays.{unmapped}
+use Rattle.desk.specs.Laid.{laidHub, lay-one, lay-done}
 use Rattle.desk.proofs.laid_out.Statement.{statement}
 use Rattle.desk.proofs.laid_out.Tie as tie
 

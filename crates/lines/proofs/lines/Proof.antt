@@ -16,7 +16,7 @@ use Rattle.lines.proofs.lines.Tie as tie
 use Rattle.lines.proofs.lines.Reads as reads
 use Rattle.lines.proofs.lines.Lts as lts
 use Rattle.lines.proofs.fields.Reads as fields-reads
-use Rattle.lines.proofs.least.Reads as least-reads
+use Rattle.choices.proofs.least.Reads as least-reads
 use Rattle.lines.proofs.line.Reads as line-reads
 
 abbrev Inv-loop : tie.InvT-loop

@@ -2,7 +2,8 @@
 use Prim.Native.Nat.{ℕ, _+_, _≤_}
 use mathlib.Core.Path.{_≡_}
 use mathlib.Core.Bool.{Bool, true, false, cond}
-use Rattle.turn.specs.Turn.{pushes-are, first-small, unmapped}
+use Rattle.pad.specs.Arrays.{unmapped}
+use Rattle.turn.specs.Turn.{pushes-are, first-small}
 use native.Mathlib.Omega.{arith}
 use borrow.Author.Needs.{needs}
 use Rattle.turn.proofs.pushed.Statement.{statement}

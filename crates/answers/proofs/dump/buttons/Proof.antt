@@ -4,7 +4,7 @@ use Prim.Native.Nat.{_-_, _≤_}
 use native.Mathlib.Omega.{arith}
 use lib.ListN.{length}
 use borrow.Author.Needs.{needs}
-use Rattle.turn.specs.Turn.{unmapped}
+use Rattle.pad.specs.Arrays.{unmapped}
 use Rattle.answers.proofs.dump.buttons.Statement.{statement}
 use Rattle.answers.proofs.dump.buttons.Tie as tie
 use Rattle.answers.proofs.dump.buttons.Reads as reads

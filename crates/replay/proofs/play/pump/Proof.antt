@@ -9,7 +9,7 @@ use Rattle.replay.proofs.play.pump.Reads as reads
 use Rattle.replay.proofs.play.pump.Lts as lts
 use Rattle.answers.proofs.say.pumped.Reads as pumped-reads
 use Rattle.pump.proofs.pump.Reads as pump-reads
-use Rattle.replay.proofs.play.least.Reads as least-reads
+use Rattle.choices.proofs.least.Reads as least-reads
 use Rattle.replay.proofs.play.none.Reads as none-reads
 use Rattle.wire.proofs.read2.Reads as read2-reads
 use Rattle.wire.proofs.read4.Reads as read4-reads
