@@ -43,7 +43,7 @@ module _ (m t : Float) (M q : ℕ) (v : HasValue m false M one) (h : Held M) (u 
       (div-units (sub binary32 m t) (sub binary32 one32 t) false false (excess M q) (rest q) excess-is rest-is (rest-pos M q h l u))
       (small (share M q) (le-trans (share-le M q h l u) (lit≤ tt)))
 
-  norm-is : HasValue (normOf m t) false (factor M q) one
+  pub norm-is : HasValue (normOf m t) false (factor M q) one
   unfolding normOf
   norm-is =
       valued (normOf m t) false (share M q) M

@@ -19,7 +19,7 @@ use Rattle.numbers.specs.Whole.{difference, plain}
 use Rattle.numbers.specs.Bounds.{range-divides}
 
 -- no NaN, and without the sign
-abbrev plus : Float → Bool
+abbrev pub plus : Float → Bool
 plus nan = false
 plus (inf s) = not s
 plus (fin s m e) = not s
@@ -50,10 +50,10 @@ units-plus q k = go (ltb (q * 2 ^ k) (2 ^ 277))
     go true = odd-plus 25 q k 149
     go false = tt
 
-round-plus : (a c : ℕ) → T (plus (round binary32 false a c))
+pub round-plus : (a c : ℕ) → T (plus (round binary32 false a c))
 round-plus a c = subst (λ (x : Float). T (plus x)) (sym (round-is binary32 false a c)) (units-plus _ _)
 
-div-plus : (x y : Float) → T (plus x) → T (plus y) → T (divisor y) → T (plus (div binary32 x y))
+pub div-plus : (x y : Float) → T (plus x) → T (plus y) → T (divisor y) → T (plus (div binary32 x y))
 unfolding div
 div-plus nan y p q d = absurd p
 div-plus (inf true) y p q d = absurd p
@@ -78,19 +78,19 @@ double-plus (fin false m e) p = round-plus (m * up e * 2) (down e * 1)
 
 -- ---- the range
 
-fits-float : (z : ℤ) → withinOf z ≡ true → T (inFloat binary32 z)
+pub fits-float : (z : ℤ) → withinOf z ≡ true → T (inFloat binary32 z)
 unfolding withinOf inFloat
 fits-float (pos n) h = let l = ltb-true n 8388608 h in le→leb n 16777216 (omega arith)
 fits-float (negsuc n) h = let l = ltb-true n 8388608 h in lt→ltb n 16777216 (omega arith)
 
-cast-plus : (z : ℤ) (n : ℕ) → z ≡ pos n → T (plus (ofInt binary32 z))
+pub cast-plus : (z : ℤ) (n : ℕ) → z ≡ pos n → T (plus (ofInt binary32 z))
 unfolding ofInt
 cast-plus z n e = rw e (round-plus n 1)
 
 less : (a b : ℕ) → a ≤ b → subℕ b a ≡ pos (b - a)
 less a b h = rw (le-ltb b a h)
 
-range-pos : (min max : ℤ) → ltZ min max ≡ true → (n : ℕ) × (max -ℤ min ≡ pos n)
+pub range-pos : (min max : ℤ) → ltZ min max ≡ true → (n : ℕ) × (max -ℤ min ≡ pos n)
 range-pos (pos a) (pos b) h = (b - a, plain b a ∙ less a b (le-of-lt (ltb-true a b h)))
 range-pos (pos a) (negsuc b) h = absurd (false≢true h)
 range-pos (negsuc a) (pos b) h = (b + suc a, refl)
@@ -107,11 +107,11 @@ unfolding fits ofBits
 default-fits = tt
 
 module _ (min max : ℤ) (p : withinOf min ≡ true) (q : withinOf max ≡ true) (l : ltZ min max ≡ true) where
-  range-plus : T (plus (rangeOf min max))
+  pub range-plus : T (plus (rangeOf min max))
   unfolding rangeOf
   range-plus = let r = range-pos min max l in rw (difference max min (fits-float max q) (fits-float min p)) (cast-plus (max -ℤ min) (r .0) (r .1))
 
-  range-divisor : T (divisor (rangeOf min max))
+  pub range-divisor : T (divisor (rangeOf min max))
   unfolding plusOdd
   range-divisor = range-divides min max p q l false
 
