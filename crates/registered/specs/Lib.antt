@@ -6,3 +6,5 @@ pub mod Directions
 pub mod Unlisted
 pub mod Converts
 pub mod Pads
+pub mod Axes
+pub mod Triggers

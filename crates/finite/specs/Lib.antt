@@ -1,0 +1,9 @@
+pub mod Units
+pub mod Rounding
+pub mod Operations
+pub mod Factor
+pub mod Larger
+pub mod Ends
+pub mod Magnitude
+pub mod Deadzone
+pub mod Kept

@@ -1,0 +1,1 @@
+// Theorems about the deadzone's answers, in specs/. No function.

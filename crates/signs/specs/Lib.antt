@@ -1,0 +1,3 @@
+pub mod Proper
+pub mod Deadzone
+pub mod Trigger

@@ -1,0 +1,1 @@
+// Theorems about the values that have no sign, in specs/. No function.
