@@ -1,2 +1,3 @@
 pub mod Times
-pub mod Scan
+pub mod Turns
+pub mod Lent

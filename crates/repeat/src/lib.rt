@@ -1,8 +1,8 @@
 // Repeat: 000's `Repeat`, with the clock as input. Whether a record is due, the event that it gives, and the scan for the first due place.
 ghost use mathlib.Core.Path.{_≡_};
 ghost use mathlib.Core.Bool.{true, false, _&&_};
-ghost use Prim.Native.Nat.{_<_, _/_};
-ghost use lib.ListN.{getD};
+ghost use Prim.Native.Nat.{_<_, _≤_, _/_};
+ghost use lib.ListN.{length, getD};
 ghost use Rattle.rules.specs.Repeat.{waitOf, dueOf, repeatedOf};
 ghost use Rattle.repeat.specs.Post.{Scanned};
 use rules::ButtonData;
@@ -79,7 +79,37 @@ fn due_at<'a>(
     false
 }
 
-// "Connected pads by number, codes rising; the first due button": place order is that order
+// "Connected pads by number, codes rising; the first due button": place order is that order. The records are a lent run, one for each place.
+fn scan<'a, 'b>(
+    connected: &'a [bool; 4],
+    touched: &'a [bool; 208],
+    buttons: &'b [ButtonData],
+    after: u64,
+    every: u64,
+    clock: u64,
+) -> usize
+    requires { ⌜ 208 ≤ length (now buttons) ⌝ }
+    ensures { λ r. ⌜ Scanned (now (connected .entry)) (now (touched .entry)) (now (buttons .entry)) after every clock r ⌝ }
+{
+    let mut place: usize = 0;
+    while place < PLACES {
+        if due_at(
+            connected,
+            touched,
+            buttons[place],
+            after,
+            every,
+            clock,
+            place,
+        ) {
+            return place;
+        }
+        place = place + 1;
+    }
+    PLACES
+}
+
+// the scan over the hub's button records, which are lent to it
 pub fn first_due<'a>(
     connected: &'a [bool; 4],
     touched: &'a [bool; 208],
@@ -90,13 +120,5 @@ pub fn first_due<'a>(
 ) -> usize
     ensures { λ r. ⌜ Scanned (now (connected .entry)) (now (touched .entry)) buttons after every clock r ⌝ }
 {
-    let mut place: usize = 0;
-    while place < PLACES {
-        let b = buttons[place];
-        if due_at(connected, touched, b, after, every, clock, place) {
-            return place;
-        }
-        place = place + 1;
-    }
-    PLACES
+    scan(connected, touched, &buttons, after, every, clock)
 }
