@@ -8,14 +8,10 @@ use Rattle.rules.specs.declared.View.{View}
 use Rattle.rules.specs.declared.Gives.{Gives}
 use Rattle.rules.specs.declared.Zoned.{Zoned}
 use Rattle.rules.specs.declared.Filtered.{Filtered}
-use Rattle.rules.specs.Places.{oneIf}
 use Rattle.rules.specs.Filters.{dpadOf, jitteredOf, deadzonedOf, joined, filteredOf}
 use Rattle.hats.specs.Counts.{dpad-few}
 use Rattle.filters.specs.Post.{Passed}
-
-one-few : (b : Bool) → oneIf b ≤ 1
-one-few true = omega arith
-one-few false = omega arith
+use Rattle.filters.specs.Behind.{one-few}
 
 joined-few : (g : Gives) (z : Zoned) → g .count ≤ 3 → joined g z .gives .count ≤ 4
 unfolding joined

@@ -6,6 +6,7 @@ ghost use Prim.Native.Nat.{_≤_};
 ghost use Rattle.numbers.specs.Constants.{zero32};
 ghost use Rattle.rules.specs.Filters as law;
 ghost use Rattle.filters.specs.Post.{Counted, Passed};
+ghost use Rattle.filters.specs.Behind.{SentIs, behindOf};
 use numbers::Pair;
 use rules::Event;
 use rules::EventType;
@@ -191,4 +192,56 @@ pub fn filtered(on: bool, v: View, e: Event) -> Filtered
         gives: hats::alone(e),
         flags: flags,
     }
+}
+
+// ---- the same with the queued events told one by one, so that none is made before it is pushed
+
+// what passes, how many events wait behind it, how many of them are a hat's, and the event that clears the partner
+pub struct Sent {
+    pub event: Event,
+    pub count: u8,
+    pub hats: u8,
+    pub clearing: Event,
+    pub flags: Flags,
+}
+
+pub fn through(on: bool, v: View, e: Event) -> Sent
+    ensures { λ r. ⌜ SentIs on v e r ⌝ }
+{
+    if on {
+        let g = hats::dpad(v, e);
+        let turned = g.event;
+        let z = deadzoned(v, jittered(v, turned));
+        let zoned = z.event;
+        let clearing = z.clearing;
+        let flags = z.flags;
+        return Sent {
+            event: zoned,
+            count: g.count + one_if(z.clears),
+            hats: g.count,
+            clearing: clearing,
+            flags: flags,
+        };
+    }
+    let flags = v.flags;
+    Sent {
+        event: e,
+        count: 0,
+        hats: 0,
+        clearing: e,
+        flags: flags,
+    }
+}
+
+// What waits at a place behind an event: the record's own next one, the hat's, the clearing one.
+pub fn behind(next: Event, v: View, e: Event, s: Sent, at: usize) -> Event
+    ensures { λ r. ⌜ r ≡ behindOf next v e s at ⌝ }
+{
+    if at == 0 {
+        return next;
+    }
+    if at <= choices::wide(s.hats) {
+        return hats::queued(v, e, at - 1);
+    }
+    s.clearing
 }

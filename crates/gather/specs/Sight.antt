@@ -1,7 +1,7 @@
 -- What a step gathers, over the hub's columns as lists, and the laws that put it together: the gathered values are the law book's view of the hub.
 -- Assumes nothing.
 use Prim.Native.Nat.{ℕ, _≤_}
-use mathlib.Core.Path.{_≡_, refl}
+use mathlib.Core.Path.{_≡_, refl, ap}
 use mathlib.Core.Bool.{Bool, false, cond}
 use mathlib.Core.List.{List}
 use lib.ListN.{getD}
@@ -17,6 +17,7 @@ use Rattle.rules.specs.Sheets.{elementAxis}
 use Rattle.rules.specs.Places.{placeOf, namedOf, presentNames}
 use Rattle.rules.specs.State.{readPressed, readValue}
 use Rattle.rules.specs.Hub.{flagPlace, viewAt, viewOf, hatPlace, partnerPlace, convertsNow, pressedAt, valueAt, elementAt, buttonAt, axisAt}
+use Rattle.pad.specs.Found.{Placed}
 use Rattle.gather.specs.declared.Found.{Found}
 use Rattle.gather.specs.declared.Cell.{Cell}
 use Rattle.gather.specs.declared.Sight.{Sight}
@@ -40,6 +41,10 @@ foundAt kinds names renames renamed touched p k =
 pub record FoundIs (codes kinds names renames : List ℕ) (renamed touched : List Bool) (p c : ℕ) (r : Found) : Type 0 where
   pub is : r ≡ foundAt kinds names renames renamed touched p (placeOf codes p c)
   pub small : r .place ≤ nowhere
+
+pub found-placed : {codes kinds names renames : List ℕ} {renamed touched : List Bool} {p c : ℕ} {r : Found} → FoundIs codes kinds names renames renamed touched p c r → Placed codes p c (r .place)
+unfolding foundAt
+found-placed f = record { is = ap (λ (x : Found). x .place) (f .is); small = f .small }
 
 -- ---- an event's places
 

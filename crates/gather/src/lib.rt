@@ -6,6 +6,7 @@ ghost use lib.ListN.{getD};
 ghost use Rattle.rules.specs.Names.{noName};
 ghost use Rattle.rules.specs.Places.{presentNames, namedOf};
 ghost use Rattle.rules.specs.Hub.{flagPlace};
+ghost use Rattle.pad.specs.Found.{Placed};
 ghost use Rattle.gather.specs.Sight.{FoundIs, SightIs, PlaceIs, cellOf, hatPlaceOf, partnerPlaceOf, convertsIn, viewBy};
 use rules::AxisData;
 use rules::ButtonData;
@@ -166,6 +167,27 @@ pub fn converts_now<'a>(
     }
 }
 
+// The place of a code where one was looked up before: most often it is the same.
+fn place_again(
+    codes: &[u32; 208],
+    p: u8,
+    code: u32,
+    lastpad: u8,
+    lastcode: u32,
+    last: usize,
+) -> usize
+    requires { ⌜ Placed (now codes) lastpad lastcode last ⌝ }
+    ensures { λ r. ⌜ Placed (now (codes .entry)) p code r ⌝ }
+{
+    if p != lastpad {
+        return pad::place_of(codes, p, code);
+    }
+    if code != lastcode {
+        return pad::place_of(codes, p, code);
+    }
+    last
+}
+
 // ---- what the filters see
 
 // The places that the filters look at for an event: its own, the two directions of a hat's axis, the partner; and where the two flags stand.
@@ -200,6 +222,49 @@ pub fn sighted<'a>(
     ensures { λ r. ⌜ SightIs (now (codes .entry)) (now (kinds .entry)) (now (names .entry)) (now (renames .entry)) (now (renamed .entry)) (now (converts .entry)) (now (reconverts .entry)) (now (touched .entry)) (now (moved .entry)) (now (flags .entry)) p name code r ⌝ }
 {
     let own = pad::place_of(codes, p, code);
+    sighted_again(
+        codes,
+        kinds,
+        names,
+        renames,
+        renamed,
+        converts,
+        reconverts,
+        touched,
+        moved,
+        flags,
+        p,
+        name,
+        code,
+        p,
+        code,
+        own,
+    )
+}
+
+// The same where a place was looked up before, for this code or another.
+pub fn sighted_again<'a>(
+    codes: &'a [u32; 208],
+    kinds: &'a [u8; 208],
+    names: &'a [u8; 208],
+    renames: &'a [u8; 208],
+    renamed: &'a [bool; 4],
+    converts: &'a [bool; 4],
+    reconverts: &'a [bool; 4],
+    touched: &'a [bool; 208],
+    moved: &'a [bool; 208],
+    flags: &'a [bool; 24],
+    p: u8,
+    name: u8,
+    code: u32,
+    lastpad: u8,
+    lastcode: u32,
+    last: usize,
+) -> Sight
+    requires { ⌜ Placed (now codes) lastpad lastcode last ⌝ }
+    ensures { λ r. ⌜ SightIs (now (codes .entry)) (now (kinds .entry)) (now (names .entry)) (now (renames .entry)) (now (renamed .entry)) (now (converts .entry)) (now (reconverts .entry)) (now (touched .entry)) (now (moved .entry)) (now (flags .entry)) p name code r ⌝ }
+{
+    let own = place_again(codes, p, code, lastpad, lastcode, last);
     let positive = hat_place(codes, p, name, names::positive_code(name));
     let negative = hat_place(codes, p, name, names::negative_code(name));
     let partner = partner_place(names, renames, renamed, p, name);

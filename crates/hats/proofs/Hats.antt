@@ -21,7 +21,7 @@ toward-minus q true e a b = refl
 toward-minus q false e a b = refl
 
 -- the code's -1.0 is 1.0 with its sign turned
-minus-one : neg one32 ≡ minusOne32
+pub minus-one : neg one32 ≡ minusOne32
 unfolding neg ofBits
 minus-one = refl
 

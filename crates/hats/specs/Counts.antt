@@ -1,8 +1,9 @@
--- dpad queues three events at most: a law of the definition, so that what a function is gives how many it queues. Assumes nothing.
-use mathlib.Core.Path.{_≡_}
+-- dpad queues three events at most, in a queue of four: laws of the definition, so that what a function is gives how many it queues. Assumes nothing.
+use mathlib.Core.Path.{_≡_, refl}
 use mathlib.Core.Bool.{Bool, true, false, cond, _&&_}
 use Prim.Native.Nat.{ℕ, _≤_}
 use lib.Ieee.{Float, eq}
+use lib.ListN.{length}
 use native.Mathlib.Omega.{arith}
 use Rattle.numbers.specs.Constants.{one32, minusOne32}
 use Rattle.rules.specs.Names.{isHat}
@@ -50,3 +51,38 @@ dpad-few v e = type-few (e .event) v e
 
 pub converted : {v : View} {e : Event} {r : Gives} → r ≡ dpadOf v e → Converted v e r
 converted {v} {e} is = record { is = is; small = rw is (dpad-few v e) }
+
+-- ---- the queue has four places
+
+hat-four : (a b p q : Bool) (e : Event) (i j : Direction) → length (hatBy a b p q e i j .queued) ≡ 4
+unfolding hatBy
+hat-four true b p false e i j = refl
+hat-four true b p true e i j = refl
+hat-four false true false q e i j = refl
+hat-four false true true q e i j = refl
+hat-four false false false false e i j = refl
+hat-four false false true false e i j = refl
+hat-four false false false true e i j = refl
+hat-four false false true true e i j = refl
+
+gives-four : (v : View) (e : Event) (n : ℕ) (x : Float) → length (hatGives v e n x .queued) ≡ 4
+unfolding hatGives
+gives-four v e n x = hat-four (eq x one32) (eq x minusOne32) (v .positive) (v .negative) e (plus n) (minus n)
+
+either-four : (on : Bool) (g h : Gives) → length (g .queued) ≡ 4 → length (h .queued) ≡ 4 → length (cond on g h .queued) ≡ 4
+either-four true g h four four' = four
+either-four false g h four four' = four'
+
+type-four : (t : EventType) (v : View) (e : Event) → length (dpadType t v e .queued) ≡ 4
+type-four (Axis n c x) v e = either-four (v .converts && isHat n) (hatGives v e n x) (alone e) (gives-four v e n x) refl
+type-four (Pressed n c) v e = refl
+type-four (Released n c) v e = refl
+type-four (Repeated n c) v e = refl
+type-four (Changed n c x) v e = refl
+type-four Connected v e = refl
+type-four Disconnected v e = refl
+type-four Dropped v e = refl
+
+pub dpad-four : (v : View) (e : Event) → length (dpadOf v e .queued) ≡ 4
+unfolding dpadOf
+dpad-four v e = type-four (e .event) v e

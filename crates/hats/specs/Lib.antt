@@ -1,2 +1,3 @@
 pub mod Post
 pub mod Counts
+pub mod Queued

@@ -1,9 +1,10 @@
 // A hat's axis as the buttons of its directions: 000's `axis_dpad_to_button`, on what it sees of the hub.
 ghost use mathlib.Core.Path.{_≡_};
-ghost use mathlib.Core.Bool.{true, false};
+ghost use mathlib.Core.Bool.{true, false, cond};
 ghost use Rattle.rules.specs.Events as events;
 ghost use Rattle.rules.specs.Filters.{hatBy, hatGives};
-ghost use Rattle.hats.specs.Post.{Converted, direction};
+ghost use Rattle.hats.specs.Post.{Converted, direction, plus, minus};
+ghost use Rattle.hats.specs.Queued.{oneOf, towardAt, centredAt, hatAt, queuedAt};
 use rules::Event;
 use rules::EventType;
 use rules::Gives;
@@ -144,5 +145,79 @@ pub fn dpad(v: View, e: Event) -> Gives
         EventType::Connected => alone(e),
         EventType::Disconnected => alone(e),
         EventType::Dropped => alone(e),
+    }
+}
+
+// ---- the same events one by one, so that none is made before it is pushed
+
+fn either(test: bool, a: Event, b: Event) -> Event
+    ensures { λ r. ⌜ r ≡ cond test a b ⌝ }
+{
+    if test { a } else { b }
+}
+
+fn one_of(a: Event, b: Event, c: Event, at: usize) -> Event
+    ensures { λ r. ⌜ r ≡ oneOf a b c at ⌝ }
+{
+    either(at == 0, a, either(at == 1, b, c))
+}
+
+fn toward_at(e: Event, name: u8, code: u32, othername: u8, othercode: u32, at: usize) -> Event
+    ensures { λ r. ⌜ r ≡ towardAt e (direction name code) (direction othername othercode) at ⌝ }
+{
+    let reads = with(e, EventType::Changed(name, code, 1.0));
+    let press = with(e, EventType::Pressed(name, code));
+    let rests = with(e, EventType::Changed(othername, othercode, 0.0));
+    one_of(reads, press, rests, at)
+}
+
+fn centred_at(
+    e: Event,
+    positive: bool,
+    name: u8,
+    code: u32,
+    othername: u8,
+    othercode: u32,
+    at: usize,
+) -> Event
+    ensures { λ r. ⌜ r ≡ centredAt positive e (direction name code) (direction othername othercode) at ⌝ }
+{
+    let rests = with(e, EventType::Changed(name, code, 0.0));
+    let release = with(e, EventType::Released(name, code));
+    let otherrests = with(e, EventType::Changed(othername, othercode, 0.0));
+    one_of(either(positive, rests, otherrests), release, otherrests, at)
+}
+
+// The value is 1.0, it is -1.0: the two tests as the law book has them.
+fn hat_at(v: View, e: Event, n: u8, up: bool, down: bool, at: usize) -> Event
+    ensures { λ r. ⌜ r ≡ hatAt up down (v .positive) e (plus n) (minus n) at ⌝ }
+{
+    let name = names::positive_name(n);
+    let code = names::positive_code(n);
+    let othername = names::negative_name(n);
+    let othercode = names::negative_code(n);
+    if up {
+        return toward_at(e, name, code, othername, othercode, at);
+    }
+    if down {
+        return toward_at(e, othername, othercode, name, code, at);
+    }
+    centred_at(e, v.positive, name, code, othername, othercode, at)
+}
+
+// What `dpad` queues at a place; where it queues nothing there, any event.
+pub fn queued(v: View, e: Event, at: usize) -> Event
+    ensures { λ r. ⌜ r ≡ queuedAt v e at ⌝ }
+{
+    let t = e.event;
+    match t {
+        EventType::Axis(n, _, x) => hat_at(v, e, n, x == 1.0, x == -1.0, at),
+        EventType::Pressed(_, _) => e,
+        EventType::Released(_, _) => e,
+        EventType::Repeated(_, _) => e,
+        EventType::Changed(_, _, _) => e,
+        EventType::Connected => e,
+        EventType::Disconnected => e,
+        EventType::Dropped => e,
     }
 }

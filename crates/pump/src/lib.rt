@@ -95,7 +95,7 @@ pub fn pump(hub: Hub, batch: &[u8], place: usize, out: &mut [u8], allowance: u16
             steps = steps + 1;
             // gather: what the filters see of the event
             let e = d.event;
-            let s = gather::sighted(
+            let s = gather::sighted_again(
                 &h.codes,
                 &h.kinds,
                 &h.names,
@@ -109,6 +109,9 @@ pub fn pump(hub: Hub, batch: &[u8], place: usize, out: &mut [u8], allowance: u16
                 e.pad,
                 events::name_of(e),
                 events::code_of(e),
+                raw.pad,
+                raw.code,
+                k,
             );
             let own = s.own;
             let plus = s.positive;
@@ -129,22 +132,21 @@ pub fn pump(hub: Hub, batch: &[u8], place: usize, out: &mut [u8], allowance: u16
                 h.axes[q],
             );
             // decide: what the filters make of it; commit: flags and queue
-            let f = filters::filtered(h.filters, v, e);
-            let g = f.gives;
+            let f = filters::through(h.filters, v, e);
             let m = f.flags;
             pad::mark_flag(&mut h.flags, s.flag, m.own);
             pad::mark_flag(&mut h.flags, s.other, m.partner);
-            let w = turn::pushed(d, g);
-            let mut x = w.start;
-            let end = w.end;
+            let next = d.next;
+            let mut x = turn::first_pushed(d.follows);
+            let end = choices::wide(f.count) + 1;
             while x < end {
-                let u = w.events[x];
+                let u = filters::behind(next, v, e, f, x);
                 let free = turn::free(h.head, h.waiting);
                 h.queue[free] = events::slot_of(u);
                 h.waiting = turn::longer(h.waiting);
                 x = x + 1;
             }
-            let z = g.event;
+            let z = f.event;
             if events::kept(h.filters, z) {
                 break z;
             }

@@ -16,6 +16,7 @@ use Rattle.rules.specs.declared.Looked.{Looked}
 use Rattle.rules.specs.declared.Dispatched.{Dispatched}
 use Rattle.rules.specs.declared.Gives.{Gives}
 use Rattle.rules.specs.declared.Filtered.{Filtered}
+use Rattle.rules.specs.declared.Flags.{Flags}
 use Rattle.rules.specs.declared.View.{View}
 use Rattle.rules.specs.Names.{placesPerPad, flagsPerPad, queueRoom, partnerOf}
 use Rattle.rules.specs.Places.{placeOf, clearedOf, oneIf}
@@ -184,7 +185,7 @@ turned h l {m} {u} {d} {f} {z} em ed ef ez eu =
 -- the whole turn, from what each call of it answers
 pub turn-is :
     (h : Hub) (l : Looked) {p marks flags head waiting front name code : ℕ} {connected renamed touched moved flagged first both : List Bool} {found : Found}
-    {d : Dispatched} {s : Sight} {v : View} {f : Filtered} {u : Hub} {es : List Event} →
+    {d : Dispatched} {s : Sight} {v : View} {f : Filtered} {sent : Flags} {z : Event} {u : Hub} {es : List Event} →
     found ≡ foundAt (h .kinds) (h .names) (h .renames) (h .renamed) (h .touched) (l .raw .pad) (placeOf (h .codes) (l .raw .pad) (l .raw .code)) →
     front ≡ h .head % queueRoom →
     d ≡ takenBy (h .waiting) (getD (h .queue) front pastSlot) (l .raw) found (getD (h .elements) (found .place) pastElement) (getD (h .buttons) (found .place) pastButton) (h .pressed) (h .released) (h .reversed) →
@@ -203,8 +204,10 @@ pub turn-is :
     SightIs (h .codes) (h .kinds) (h .names) (h .renames) renamed (h .converts) (h .reconverts) touched moved flagged (d .event .pad) name code s →
     v ≡ viewBy s (getD (h .elements) (s .own .place) pastElement) (getD (h .buttons) (s .own .place) pastButton) (getD (h .axes) (s .own .place) pastAxis) (getD (h .buttons) (s .positive .place) pastButton) (getD (h .buttons) (s .negative .place) pastButton) (getD (h .buttons) (s .partner .place) pastButton) (getD (h .axes) (s .partner .place) pastAxis) →
     f ≡ filteredOf (h .filters) v (d .event) →
-    first ≡ set flagged (s .flag) (f .flags .own) →
-    both ≡ set first (s .other) (f .flags .partner) →
+    sent ≡ f .flags →
+    first ≡ set flagged (s .flag) (sent .own) →
+    both ≡ set first (s .other) (sent .partner) →
+    z ≡ f .gives .event →
     es ≡ pushesOf d (f .gives) →
     u
     ≡ queuedHub
@@ -238,10 +241,11 @@ pub turn-is :
       waiting = waiting;
     })
     es →
-    Turned h l u (f .gives .event)
-turn-is h l {head = head} {waiting = waiting} {connected = connected} {renamed = renamed} {touched = touched} {moved = moved} {flagged = flagged} {d = d} {s = s} {v = v} {f = f} efound efront ed ep em eg ec er et ev ef eh ew en eo seen ein efil e1 e2 es eu =
-    turned h l (marked-is h (l .raw) ep em eg ec er et ev ef eh ew) (taken-is h l efound efront ed) (filtered-is marked d en eo seen ein efil) refl
-    (turned-is marked d en eo seen ein efil e1 e2 es eu)
+    Turned h l u z
+turn-is h l {head = head} {waiting = waiting} {connected = connected} {renamed = renamed} {touched = touched} {moved = moved} {flagged = flagged} {first = first} {d = d} {s = s} {v = v} {f = f} efound efront ed ep em eg ec er et ev ef eh ew en eo seen ein efil esent e1 e2 ez es eu =
+    turned h l (marked-is h (l .raw) ep em eg ec er et ev ef eh ew) (taken-is h l efound efront ed) (filtered-is marked d en eo seen ein efil) ez
+    (turned-is marked d en eo seen ein efil (e1 ∙ ap (λ (x : Flags). set flagged (s .flag) (x .own)) esent)
+    (e2 ∙ ap (λ (x : Flags). set first (s .other) (x .partner)) esent) es eu)
   where
     marked : Hub
     marked =

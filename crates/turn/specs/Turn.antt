@@ -52,13 +52,17 @@ four past (a ∷ b ∷ c ∷ d ∷ []) e = refl
 four past (a ∷ b ∷ c ∷ d ∷ x ∷ xs) e = absurd (omega arith)
 
 -- the record's own event before the filters', left out where there is none
-pub pushes-are : (past : Event) (d : Dispatched) (g : Gives) → length (g .queued) ≡ 4 → part (d .next ∷ getD (g .queued) 0 past ∷ getD (g .queued) 1 past ∷ getD (g .queued) 2 past ∷ getD (g .queued) 3 past ∷ []) (cond (d .follows) 0 1) (g .count + 1) ≡ pushesOf d g
+pub list-pushed : (d : Dispatched) (g : Gives) → part (d .next ∷ g .queued) (cond (d .follows) 0 1) (g .count + 1) ≡ pushesOf d g
 unfolding pushesOf queuedOf
-pushes-are past d g long = rw (four past (g .queued) long, add-one) (go (d .follows))
+list-pushed d g = rw add-one (go (d .follows))
   where
     go : (b : Bool) → drop (cond b 0 1) (take (suc (g .count)) (d .next ∷ g .queued)) ≡ cond b (d .next ∷ take (g .count) (g .queued)) (take (g .count) (g .queued))
     go true = refl
     go false = refl
+
+-- the same, with the queue's events read one by one
+pub pushes-are : (past : Event) (d : Dispatched) (g : Gives) → length (g .queued) ≡ 4 → part (d .next ∷ getD (g .queued) 0 past ∷ getD (g .queued) 1 past ∷ getD (g .queued) 2 past ∷ getD (g .queued) 3 past ∷ []) (cond (d .follows) 0 1) (g .count + 1) ≡ pushesOf d g
+pushes-are past d g long = rw (four past (g .queued) long) (list-pushed d g)
 
 pub first-small : (follows : Bool) (n : ℕ) → cond follows 0 1 ≤ n + 1
 first-small true n = omega arith

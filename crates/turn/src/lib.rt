@@ -197,7 +197,8 @@ pub struct Pushes {
     pub events: [Event; 5],
 }
 
-fn first_pushed(follows: bool) -> usize
+// What a record queues itself stands first; without it the filters' first is pushed first.
+pub fn first_pushed(follows: bool) -> usize
     ensures { λ r. ⌜ r ≡ cond follows 0 1 ⌝ }
 {
     if follows { 0 } else { 1 }

@@ -103,9 +103,6 @@ name-of-requires c κs = search needs
 pub code-of-requires : tie.Need-code-of-requires Inv-loop3 μ-loop3 Inv-loop2 μ-loop2 Inv-loop μ-loop
 code-of-requires c κs = search needs
 
-pub sighted-requires : tie.Need-sighted-requires Inv-loop3 μ-loop3 Inv-loop2 μ-loop2 Inv-loop μ-loop
-sighted-requires c κs = search needs
-
 pub mul-view-of : tie.Need-mul-view-of Inv-loop3 μ-loop3 Inv-loop2 μ-loop2 Inv-loop μ-loop
 mul-view-of c = omega arith
 
@@ -151,8 +148,8 @@ element-copy-out-view-of-7 c = omega arith
 pub view-of-requires : tie.Need-view-of-requires Inv-loop3 μ-loop3 Inv-loop2 μ-loop2 Inv-loop μ-loop
 view-of-requires c κs = search needs
 
-pub filtered-requires : tie.Need-filtered-requires Inv-loop3 μ-loop3 Inv-loop2 μ-loop2 Inv-loop μ-loop
-filtered-requires c κs = search needs
+pub through-requires : tie.Need-through-requires Inv-loop3 μ-loop3 Inv-loop2 μ-loop2 Inv-loop μ-loop
+through-requires c κs = search needs
 
 pub mark-flag-requires : tie.Need-mark-flag-requires Inv-loop3 μ-loop3 Inv-loop2 μ-loop2 Inv-loop μ-loop
 mark-flag-requires c κs = search needs
@@ -160,14 +157,17 @@ mark-flag-requires c κs = search needs
 pub mark-flag-requires-2 : tie.Need-mark-flag-requires-2 Inv-loop3 μ-loop3 Inv-loop2 μ-loop2 Inv-loop μ-loop
 mark-flag-requires-2 c κs = search needs
 
-pub pushed-requires : tie.Need-pushed-requires Inv-loop3 μ-loop3 Inv-loop2 μ-loop2 Inv-loop μ-loop
-pushed-requires c κs = search needs
+pub first-pushed-requires : tie.Need-first-pushed-requires Inv-loop3 μ-loop3 Inv-loop2 μ-loop2 Inv-loop μ-loop
+first-pushed-requires c κs = search needs
 
-pub mul-u : tie.Need-mul-u Inv-loop3 μ-loop3 Inv-loop2 μ-loop2 Inv-loop μ-loop
-mul-u c = omega arith
+pub wide-requires-2 : tie.Need-wide-requires-2 Inv-loop3 μ-loop3 Inv-loop2 μ-loop2 Inv-loop μ-loop
+wide-requires-2 c κs = search needs
 
-pub element-copy-out-u : tie.Need-element-copy-out-u Inv-loop3 μ-loop3 Inv-loop2 μ-loop2 Inv-loop μ-loop
-element-copy-out-u c = omega arith
+pub add-end : tie.Need-add-end Inv-loop3 μ-loop3 Inv-loop2 μ-loop2 Inv-loop μ-loop
+add-end c = omega arith
+
+pub behind-requires : tie.Need-behind-requires Inv-loop3 μ-loop3 Inv-loop2 μ-loop2 Inv-loop μ-loop
+behind-requires c κs = search needs
 
 pub free-requires : tie.Need-free-requires Inv-loop3 μ-loop3 Inv-loop2 μ-loop2 Inv-loop μ-loop
 free-requires c κs = search needs
@@ -175,8 +175,8 @@ free-requires c κs = search needs
 pub slot-of-requires : tie.Need-slot-of-requires Inv-loop3 μ-loop3 Inv-loop2 μ-loop2 Inv-loop μ-loop
 slot-of-requires c κs = search needs
 
-pub mul-t131 : tie.Need-mul-t131 Inv-loop3 μ-loop3 Inv-loop2 μ-loop2 Inv-loop μ-loop
-mul-t131 c = omega arith
+pub mul-t132 : tie.Need-mul-t132 Inv-loop3 μ-loop3 Inv-loop2 μ-loop2 Inv-loop μ-loop
+mul-t132 c = omega arith
 
 pub element-set-from-h : tie.Need-element-set-from-h Inv-loop3 μ-loop3 Inv-loop2 μ-loop2 Inv-loop μ-loop
 element-set-from-h c = omega arith
@@ -214,8 +214,8 @@ element-copy-out-button-written c = omega arith
 pub button-written-requires : tie.Need-button-written-requires Inv-loop3 μ-loop3 Inv-loop2 μ-loop2 Inv-loop μ-loop
 button-written-requires c κs = search needs
 
-pub mul-t151 : tie.Need-mul-t151 Inv-loop3 μ-loop3 Inv-loop2 μ-loop2 Inv-loop μ-loop
-mul-t151 c = omega arith
+pub mul-t146 : tie.Need-mul-t146 Inv-loop3 μ-loop3 Inv-loop2 μ-loop2 Inv-loop μ-loop
+mul-t146 c = omega arith
 
 pub element-set-from-h-2 : tie.Need-element-set-from-h-2 Inv-loop3 μ-loop3 Inv-loop2 μ-loop2 Inv-loop μ-loop
 element-set-from-h-2 c = omega arith
@@ -229,8 +229,8 @@ element-copy-out-axis-written c = omega arith
 pub axis-written-requires : tie.Need-axis-written-requires Inv-loop3 μ-loop3 Inv-loop2 μ-loop2 Inv-loop μ-loop
 axis-written-requires c κs = search needs
 
-pub mul-t151-2 : tie.Need-mul-t151-2 Inv-loop3 μ-loop3 Inv-loop2 μ-loop2 Inv-loop μ-loop
-mul-t151-2 c = omega arith
+pub mul-t146-2 : tie.Need-mul-t146-2 Inv-loop3 μ-loop3 Inv-loop2 μ-loop2 Inv-loop μ-loop
+mul-t146-2 c = omega arith
 
 pub element-set-from-h-3 : tie.Need-element-set-from-h-3 Inv-loop3 μ-loop3 Inv-loop2 μ-loop2 Inv-loop μ-loop
 element-set-from-h-3 c = omega arith

@@ -1,12 +1,12 @@
--- `gather::sighted` meets its contract: what the calls ensure, put together by one law. Assumes nothing.
+-- `gather::sighted_again` meets its contract: what the calls ensure, put together by one law. Assumes nothing.
 use Rattle.gather.specs.Sight.{cellOf, sight-is}
 use Rattle.gather.specs.Sight.{sightAt, cellOf}
 use borrow.Author.Needs.{needs}
-use Rattle.gather.proofs.sighted.Statement.{statement}
-use Rattle.gather.proofs.sighted.Tie as tie
+use Rattle.gather.proofs.sighted_again.Statement.{statement}
+use Rattle.gather.proofs.sighted_again.Tie as tie
 
-place-of-requires : tie.Need-place-of-requires
-place-of-requires c κs = search needs
+place-again-requires : tie.Need-place-again-requires
+place-again-requires c κs = search needs
 
 positive-code-requires : tie.Need-positive-code-requires
 positive-code-requires c κs = search needs
@@ -62,18 +62,18 @@ flag-at-requires-2 c κs = search needs
 returns : tie.Need-returns
 unfolding cellOf
 returns c = record {
-  is = sight-is _ _ _ _ _ _ _ _ _ _ _ _ _ (c .before .before .before .before .before .before .before .before .before .before .before .before .before .before .before .before .before .place-of .ensures .is) (c .before .before .before .before .before .before .before .before .before .before .before .before .before .before .before .before .positive-code .ensures) (c .before .before .before .before .before .before .before .before .before .before .before .before .before .before .before .hat-place .ensures .is) (c .before .before .before .before .before .before .before .before .before .before .before .before .before .before .negative-code .ensures) (c .before .before .before .before .before .before .before .before .before .before .before .before .before .hat-place2 .ensures .is) (c .before .before .before .before .before .before .before .before .before .before .before .before .partner-place .ensures .is) (c .before .before .before .before .before .before .before .before .before .before .before .flag-place .ensures) (c .before .before .before .before .before .before .before .before .before .before .partner-of .ensures) (c .before .before .before .before .before .before .before .before .before .flag-place2 .ensures) (c .before .before .before .before .before .before .before .before .cell-at .ensures) (c .before .before .before .before .before .before .before .cell-at2 .ensures) (c .before .before .before .before .before .before .cell-at3 .ensures) (c .before .before .before .before .before .cell-at4 .ensures) (c .before .before .before .before .code-at .ensures) (c .before .before .before .converts-now .ensures) (c .before .before .kind-at .ensures) (c .before .flag-at .ensures) (c .flag-at2 .ensures);
-  own-small = rw (c .before .before .before .before .before .before .before .before .cell-at .ensures) (c .before .before .before .before .before .before .before .before .before .before .before .before .before .before .before .before .before .place-of .ensures .small);
+  is = sight-is _ _ _ _ _ _ _ _ _ _ _ _ _ (c .before .before .before .before .before .before .before .before .before .before .before .before .before .before .before .before .before .place-again .ensures .is) (c .before .before .before .before .before .before .before .before .before .before .before .before .before .before .before .before .positive-code .ensures) (c .before .before .before .before .before .before .before .before .before .before .before .before .before .before .before .hat-place .ensures .is) (c .before .before .before .before .before .before .before .before .before .before .before .before .before .before .negative-code .ensures) (c .before .before .before .before .before .before .before .before .before .before .before .before .before .hat-place2 .ensures .is) (c .before .before .before .before .before .before .before .before .before .before .before .before .partner-place .ensures .is) (c .before .before .before .before .before .before .before .before .before .before .before .flag-place .ensures) (c .before .before .before .before .before .before .before .before .before .before .partner-of .ensures) (c .before .before .before .before .before .before .before .before .before .flag-place2 .ensures) (c .before .before .before .before .before .before .before .before .cell-at .ensures) (c .before .before .before .before .before .before .before .cell-at2 .ensures) (c .before .before .before .before .before .before .cell-at3 .ensures) (c .before .before .before .before .before .cell-at4 .ensures) (c .before .before .before .before .code-at .ensures) (c .before .before .before .converts-now .ensures) (c .before .before .kind-at .ensures) (c .before .flag-at .ensures) (c .flag-at2 .ensures);
+  own-small = rw (c .before .before .before .before .before .before .before .before .cell-at .ensures) (c .before .before .before .before .before .before .before .before .before .before .before .before .before .before .before .before .before .place-again .ensures .small);
   positive-small = rw (c .before .before .before .before .before .before .before .cell-at2 .ensures) (c .before .before .before .before .before .before .before .before .before .before .before .before .before .before .before .hat-place .ensures .small);
   negative-small = rw (c .before .before .before .before .before .before .cell-at3 .ensures) (c .before .before .before .before .before .before .before .before .before .before .before .before .before .hat-place2 .ensures .small);
   partner-small = rw (c .before .before .before .before .before .cell-at4 .ensures) (c .before .before .before .before .before .before .before .before .before .before .before .before .partner-place .ensures .small);
 }
 
-pub sighted-spec : {M : Type 1} → statement M
-sighted-spec =
+pub sighted-again-spec : {M : Type 1} → statement M
+sighted-again-spec =
     tie.close
     (tie.spec
-    place-of-requires
+    place-again-requires
     positive-code-requires
     hat-place-requires
     negative-code-requires
