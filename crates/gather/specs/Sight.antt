@@ -88,7 +88,7 @@ pub record SightIs (codes kinds names renames : List ℕ) (renamed converts reco
   pub negative-small : r .negative .place ≤ nowhere
   pub partner-small : r .partner .place ≤ nowhere
 
--- what `sighted` puts together, from what each read answers
+-- what `sighted_again` puts together, from what each read answers
 pub sight-is :
     (codes kinds names renames : List ℕ) (renamed converts reconverts touched moved flags : List Bool) (p n c : ℕ)
     {own plus positive minus negative partner flag name other code kind : ℕ} {atOwn atPositive atNegative atPartner : Cell} {conv ownFlag otherFlag : Bool} →

@@ -204,45 +204,7 @@ pub struct Sight {
     pub flags: Flags,
 }
 
-pub fn sighted<'a>(
-    codes: &'a [u32; 208],
-    kinds: &'a [u8; 208],
-    names: &'a [u8; 208],
-    renames: &'a [u8; 208],
-    renamed: &'a [bool; 4],
-    converts: &'a [bool; 4],
-    reconverts: &'a [bool; 4],
-    touched: &'a [bool; 208],
-    moved: &'a [bool; 208],
-    flags: &'a [bool; 24],
-    p: u8,
-    name: u8,
-    code: u32,
-) -> Sight
-    ensures { λ r. ⌜ SightIs (now (codes .entry)) (now (kinds .entry)) (now (names .entry)) (now (renames .entry)) (now (renamed .entry)) (now (converts .entry)) (now (reconverts .entry)) (now (touched .entry)) (now (moved .entry)) (now (flags .entry)) p name code r ⌝ }
-{
-    let own = pad::place_of(codes, p, code);
-    sighted_again(
-        codes,
-        kinds,
-        names,
-        renames,
-        renamed,
-        converts,
-        reconverts,
-        touched,
-        moved,
-        flags,
-        p,
-        name,
-        code,
-        p,
-        code,
-        own,
-    )
-}
-
-// The same where a place was looked up before, for this code or another.
+// What a step sees for an event, where a place was looked up before, for the event's code or another.
 pub fn sighted_again<'a>(
     codes: &'a [u32; 208],
     kinds: &'a [u8; 208],

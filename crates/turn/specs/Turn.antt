@@ -1,14 +1,14 @@
--- What a turn answers where a caller needs more than an equation: a ring's place with its bound, and the events to push as a part of an array, with the
--- law that the part is the law book's list. Assumes nothing.
-use Prim.Native.Nat.{ℕ, zero, suc, _+_, _-_, _≤_, _<_}
+-- What a turn answers where a caller needs more than an equation: a ring's place with its bound, and the events to push as a part of a list, with the law
+-- that the part is the law book's. Assumes nothing.
+use Prim.Native.Nat.{ℕ, suc, _+_, _-_, _≤_, _<_}
 use mathlib.Core.Path.{_≡_, refl}
 use mathlib.Core.Bool.{Bool, true, false, cond}
-use mathlib.Core.List.{List, [], _∷_}
+use mathlib.Core.List.{List, _∷_}
 use native.Mathlib.Numerals.{add-one}
 use native.Mathlib.Omega.{arith}
 use lib.Dec.{ltb}
 use lib.Ieee.{Float}
-use lib.ListN.{length, getD, take, drop}
+use lib.ListN.{take, drop}
 use Rattle.rules.specs.declared.Event.{Event}
 use Rattle.rules.specs.declared.Slot.{Slot}
 use Rattle.rules.specs.declared.RawRecord.{RawRecord}
@@ -21,7 +21,6 @@ use Rattle.rules.specs.State.{readPressed}
 use Rattle.rules.specs.Dispatch.{dispatchOf, single}
 use Rattle.rules.specs.Step.{pushesOf}
 use Rattle.gather.specs.declared.Found.{Found}
-use Rattle.turn.specs.declared.Pushes.{Pushes}
 
 pub record RingIs (place r : ℕ) : Type 0 where
   pub is : r ≡ place
@@ -37,20 +36,6 @@ takenBy waiting slot r found e b pressed released reversed =
 abbrev pub part : List Event → ℕ → ℕ → List Event
 part es start end = drop start (take end es)
 
-pub record PushesIs (d : Dispatched) (g : Gives) (r : Pushes) : Type 0 where
-  pub is : part (r .events) (r .start) (r .end) ≡ pushesOf d g
-  pub ordered : r .start ≤ r .end
-  pub small : r .end ≤ 5
-
--- four events, read one by one
-four : (past : Event) (q : List Event) → length q ≡ 4 → getD q 0 past ∷ getD q 1 past ∷ getD q 2 past ∷ getD q 3 past ∷ [] ≡ q
-four past [] e = absurd (omega arith)
-four past (a ∷ []) e = absurd (omega arith)
-four past (a ∷ b ∷ []) e = absurd (omega arith)
-four past (a ∷ b ∷ c ∷ []) e = absurd (omega arith)
-four past (a ∷ b ∷ c ∷ d ∷ []) e = refl
-four past (a ∷ b ∷ c ∷ d ∷ x ∷ xs) e = absurd (omega arith)
-
 -- the record's own event before the filters', left out where there is none
 pub list-pushed : (d : Dispatched) (g : Gives) → part (d .next ∷ g .queued) (cond (d .follows) 0 1) (g .count + 1) ≡ pushesOf d g
 unfolding pushesOf queuedOf
@@ -59,10 +44,6 @@ list-pushed d g = rw add-one (go (d .follows))
     go : (b : Bool) → drop (cond b 0 1) (take (suc (g .count)) (d .next ∷ g .queued)) ≡ cond b (d .next ∷ take (g .count) (g .queued)) (take (g .count) (g .queued))
     go true = refl
     go false = refl
-
--- the same, with the queue's events read one by one
-pub pushes-are : (past : Event) (d : Dispatched) (g : Gives) → length (g .queued) ≡ 4 → part (d .next ∷ getD (g .queued) 0 past ∷ getD (g .queued) 1 past ∷ getD (g .queued) 2 past ∷ getD (g .queued) 3 past ∷ []) (cond (d .follows) 0 1) (g .count + 1) ≡ pushesOf d g
-pushes-are past d g long = rw (four past (g .queued) long) (list-pushed d g)
 
 pub first-small : (follows : Bool) (n : ℕ) → cond follows 0 1 ≤ n + 1
 first-small true n = omega arith

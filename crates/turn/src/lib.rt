@@ -9,14 +9,13 @@ ghost use Rattle.rules.specs.Hub.{longerOf, slotAt};
 ghost use Rattle.rules.specs.Step.{connectedAfter, renamedAfter, joinRun, headAfter};
 ghost use Rattle.rules.specs.Pump.{stopOf, stopAnswer, placeAfter};
 ghost use Rattle.rules.specs.State.{buttonAfter, axisAfter};
-ghost use Rattle.turn.specs.Turn.{PushesIs, RingIs, takenBy};
+ghost use Rattle.turn.specs.Turn.{RingIs, takenBy};
 use gather::Found;
 use rules::AxisData;
 use rules::ButtonData;
 use rules::Dispatched;
 use rules::Element;
 use rules::Event;
-use rules::Gives;
 use rules::Looked;
 use rules::PumpAnswer;
 use rules::RawRecord;
@@ -190,31 +189,11 @@ pub fn place_after(waiting: u8, at: usize) -> usize
 
 // ---- what is pushed
 
-// The events from `start` up to `end` are pushed, in order: the record's own, then the filters'.
-pub struct Pushes {
-    pub start: usize,
-    pub end: usize,
-    pub events: [Event; 5],
-}
-
 // What a record queues itself stands first; without it the filters' first is pushed first.
 pub fn first_pushed(follows: bool) -> usize
     ensures { λ r. ⌜ r ≡ cond follows 0 1 ⌝ }
 {
     if follows { 0 } else { 1 }
-}
-
-pub fn pushed(d: Dispatched, g: Gives) -> Pushes
-    requires { ⌜ g .count ≤ 4 ⌝ }
-    ensures { λ r. ⌜ PushesIs d g r ⌝ }
-{
-    let n = d.next;
-    let q = g.queued;
-    Pushes {
-        start: first_pushed(d.follows),
-        end: choices::wide(g.count) + 1,
-        events: [n, q[0], q[1], q[2], q[3]],
-    }
 }
 
 // ---- the records after an event
