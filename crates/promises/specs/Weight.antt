@@ -89,7 +89,7 @@ weigh-append (e ∷ front) back =
 -- ---- what the filters queue behind an event
 
 -- a hat's partner is a hat, and no other axis's is: a clearing event weighs what its cause weighs
-partner-hat : (n : ℕ) → isHat (partnerOf n) ≡ isHat n
+pub partner-hat : (n : ℕ) → isHat (partnerOf n) ≡ isHat n
 unfolding isHat partnerOf
 partner-hat n =
     by (eqb n leftStickX) (eqb n leftStickY) (eqb n rightStickX) (eqb n rightStickY) (eqb n dpadX) (eqb n dpadY) refl refl refl refl refl refl

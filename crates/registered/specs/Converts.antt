@@ -24,7 +24,7 @@ scan-same one two c (suc n) k same =
 
 module _ (codes codes′ names names′ : List ℕ) (p : ℕ) (stands : p < padLimit) (falls : NeverFalls codes p) (falls′ : NeverFalls codes′ p)
     (same-codes : SamePlaces codes codes′ p) (same-names : SamePlaces names names′ p) (long : length names ≡ nowhere) (long′ : length names′ ≡ nowhere) where
-  place-same : (c : ℕ) → placeOf codes p c ≡ placeOf codes′ p c
+  pub place-same : (c : ℕ) → placeOf codes p c ≡ placeOf codes′ p c
   place-same c =
       place-is-scan codes p c stands falls
       ∙ (scan-same codes codes′ c placesPerPad (placesPerPad * p) (λ j from to. same-codes .at j 0 from to)

@@ -1,0 +1,155 @@
+-- A registration leaves the pads before it as they were: their codes are found where they were, with the same element, and their state and their events stay.
+-- Assumes nothing.
+use Prim.Native.Nat.{ℕ, _+_, _*_, _/_, _<_, _≤_}
+use mathlib.Core.Bool.{Bool, true, false, _&&_}
+use mathlib.Core.List.{List, map}
+use mathlib.Core.Path.{_≡_, refl, sym, _∙_, ap}
+use lib.Dec.{eqb, ltb}
+use lib.Ieee.{Float}
+use lib.ListN.{getD, List·getD-eq-default}
+use lib.Seq.{getD-set-other}
+use native.Mathlib.Omega.{arith}
+use borrow.Author.Tests.{ltb-true, ltb-false}
+use Rattle.rules.specs.declared.Hub.{Hub}
+use Rattle.rules.specs.declared.Event.{Event}
+use Rattle.rules.specs.Names.{padLimit, placesPerPad, nowhere, noName, isHat}
+use Rattle.rules.specs.Sheets.{countOf}
+use Rattle.rules.specs.Places.{placeOf, rowsOf}
+use Rattle.rules.specs.Events.{codeOf}
+use Rattle.rules.specs.Hub.{touchedAt, movedAt, pastElement}
+use Rattle.rules.specs.Calls.{rowCode, rowKind, rowName, rowElement, registerRefusal, registeredAt, registerBy}
+use Rattle.promises.specs.Waiting.{waitingList}
+use Rattle.pad.specs.Lookup.{place-stands}
+use Rattle.registered.specs.Columns.{laid-places, accepted, register-others, register-sized, keeps-rise}
+use Rattle.registered.specs.Converts.{SamePlaces, place-same}
+use Rattle.registered.specs.Pads.{Desk}
+use Rattle.history.specs.Cells.{cellAt, Long, hits}
+use Rattle.history.specs.Marks.{cleared-before, cleared-inside}
+use Rattle.history.specs.Waits.{sheetOf, axialAt, takes, zonedAt, Fit, press, release, change, stick}
+use Rattle.history.specs.Truth.{true-false}
+
+-- past the last place stands no axis
+pub past-axial : (h : Hub) → Desk h → (k : ℕ) → nowhere ≤ k → axialAt (sheetOf h) k ≡ false
+unfolding axialAt
+past-axial h desk k past =
+    let names = desk .sized .names in
+    let kinds = desk .sized .kinds in
+    rw (List·getD-eq-default (h .names) noName {n = k} (omega arith), List·getD-eq-default (h .kinds) 0 {n = k} (omega arith))
+
+module _ (h : Hub) (s : List ℕ) (desk : Desk h) (ok : registerRefusal (h .pads) s ≡ 0) where
+  abbrev pub next : Hub
+  next = registerBy 0 h s .hub
+
+  few : h .pads < padLimit
+  few = accepted (h .pads) s ok .0
+
+  module _ (q : ℕ) (old : q < h .pads) where
+    same-codes : SamePlaces (h .codes) (next .codes) q
+    unfolding registeredAt
+    same-codes = record { at = λ j past from to. sym (laid-places (h .codes) (map rowCode (rowsOf s (countOf s))) q (h .pads) j past old to) }
+
+    same-names : SamePlaces (h .names) (next .names) q
+    unfolding registeredAt
+    same-names = record { at = λ j past from to. sym (laid-places (h .names) (map rowName (rowsOf s (countOf s))) q (h .pads) j past old to) }
+
+    pub old-place : (c : ℕ) → placeOf (next .codes) q c ≡ placeOf (h .codes) q c
+    old-place c =
+        let w = desk .sheets q old in
+        let f = few in
+        let keeps = register-others h s (desk .sized) f q (w .sheet) old (w .keeps) in
+        sym
+        (place-same (h .codes) (next .codes) (h .names) (next .names) q (omega arith) (keeps-rise h q (w .sheet) (w .taken) (w .keeps))
+        (keeps-rise next q (w .sheet) (w .taken) keeps) same-codes same-names (desk .sized .names) (register-sized h s (desk .sized) .names) c)
+
+    pub old-converts : getD (next .converts) q false ≡ getD (h .converts) q false
+    unfolding registeredAt
+    old-converts = getD-set-other (h .converts) (h .pads) q _ false (λ e. omega arith)
+
+    pub old-takes : (n : ℕ) → takes (sheetOf next) q n ≡ takes (sheetOf h) q n
+    unfolding takes
+    old-takes n = ap (λ (b : Bool). b && isHat n) old-converts
+
+    module _ (k : ℕ) (own : k / placesPerPad ≡ q) where
+      to : k < placesPerPad * q + placesPerPad
+      to = omega arith
+
+      pub old-name : getD (next .names) k noName ≡ getD (h .names) k noName
+      unfolding registeredAt
+      old-name = laid-places (h .names) (map rowName (rowsOf s (countOf s))) q (h .pads) k noName old to
+
+      pub old-kind : getD (next .kinds) k 0 ≡ getD (h .kinds) k 0
+      unfolding registeredAt
+      old-kind = laid-places (h .kinds) (map rowKind (rowsOf s (countOf s))) q (h .pads) k 0 old to
+
+      pub old-element : getD (next .elements) k pastElement ≡ getD (h .elements) k pastElement
+      unfolding registeredAt
+      old-element = laid-places (h .elements) (map rowElement (rowsOf s (countOf s))) q (h .pads) k pastElement old to
+
+      pub old-axial : axialAt (sheetOf next) k ≡ axialAt (sheetOf h) k
+      unfolding axialAt
+      old-axial = rw (old-name, old-kind)
+
+      pub old-zoned : (x : Float) → zonedAt (sheetOf next) k x ≡ zonedAt (sheetOf h) k x
+      unfolding zonedAt
+      old-zoned x = rw (old-kind, old-element)
+
+      before : k < placesPerPad * h .pads
+      before = omega arith
+
+      pub old-cell : cellAt next k ≡ cellAt h k
+      unfolding cellAt registeredAt
+      old-cell = rw (cleared-before placesPerPad (h .touched) (placesPerPad * h .pads) k before)
+
+      pub old-moved : movedAt next k ≡ movedAt h k
+      unfolding registeredAt
+      old-moved = cleared-before placesPerPad (h .moved) (placesPerPad * h .pads) k before
+
+  -- ---- the new pad's places
+
+  module _ (k : ℕ) (own : k / placesPerPad ≡ h .pads) (long : Long h) where
+    pub new-touched : touchedAt next k ≡ false
+    unfolding registeredAt
+    new-touched =
+        let f = few in
+        let l = long .touched in
+        cleared-inside placesPerPad (h .touched) (placesPerPad * h .pads) k (omega arith) (omega arith) (omega arith)
+
+    pub new-moved : movedAt next k ≡ false
+    unfolding registeredAt
+    new-moved =
+        let f = few in
+        let l = long .moved in
+        cleared-inside placesPerPad (h .moved) (placesPerPad * h .pads) k (omega arith) (omega arith) (omega arith)
+
+  -- ---- events that wait
+
+  pub same-queue : waitingList next ≡ waitingList h
+  unfolding waitingList registeredAt
+  same-queue = refl
+
+  axial-at : (q : ℕ) (old : q < h .pads) (c : ℕ) → axialAt (sheetOf h) (placeOf (h .codes) q c) ≡ true → (found : Bool) → ltb (placeOf (h .codes) q c) nowhere ≡ found
+      → axialAt (sheetOf next) (placeOf (next .codes) q c) ≡ true
+  axial-at q old c axial true l =
+      let own = place-stands (h .codes) q c (ltb-true (placeOf (h .codes) q c) nowhere l) .own in
+      ap (λ (k : ℕ). axialAt (sheetOf next) k) (old-place q old c) ∙ (old-axial q old (placeOf (h .codes) q c) own ∙ axial)
+  axial-at q old c axial false l =
+      true-false (sym axial ∙ past-axial h desk (placeOf (h .codes) q c) (ltb-false (placeOf (h .codes) q c) nowhere l))
+
+  pub pads-are : next .pads ≡ h .pads + 1
+  unfolding registeredAt
+  pads-are = refl
+
+  pub more-pads : (q : ℕ) → q < h .pads → q < next .pads
+  unfolding registeredAt
+  more-pads q old = omega arith
+
+  pub still-fits : {e : Event} → Fit (sheetOf h) e → Fit (sheetOf next) e
+  still-fits (press {pad} old) = press (more-pads pad old)
+  still-fits (release {pad} old) = release (more-pads pad old)
+  still-fits (change {pad} old) = change (more-pads pad old)
+  still-fits (stick {pad} {time} {n} {c} old axial free) =
+      stick (more-pads pad old) (axial-at pad old c axial (ltb (placeOf (h .codes) pad c) nowhere) refl) (old-takes pad old n ∙ free)
+
+  pub same-hits : (k : ℕ) (e : Event) → e .pad < h .pads → hits (next .codes) k e ≡ hits (h .codes) k e
+  unfolding hits
+  same-hits k e old = ap (λ (j : ℕ). eqb j k) (old-place (e .pad) old (codeOf e))
