@@ -13,7 +13,7 @@ use Rattle.numbers.specs.Deadzone.{deadzoneOf}
 use Rattle.rules.specs.declared.RawRecord.{RawRecord}
 use Rattle.rules.specs.declared.Element.{Element}
 use Rattle.rules.specs.Names.{dpadX, dpadY}
-use Rattle.history.specs.Rule.{Reading, nothing, held, buttonReads, triggerReads, hatValue}
+use Rattle.history.specs.Rule.{nothing, held, buttonReads, triggerReads, hatValue}
 
 abbrev of : ℕ → ℕ → ℕ → ℤ → RawRecord
 of kind pad code value = record { kind = kind; pad = pad; code = code; value = value; time = 0 }
