@@ -1,10 +1,10 @@
 -- Buttons and triggers, whatever is played: what a code's place tells is what the rule says of the records that were taken. By induction on the calls.
 -- Assumes nothing.
 use Prim.Native.Nat.{ℕ, zero, suc, _<_, _≤_}
-use mathlib.Core.Bool.{Bool, true, false}
+use mathlib.Core.Bool.{Bool, true, false, cond}
 use mathlib.Core.List.{List, [], _∷_}
 use mathlib.Core.Path.{_≡_, refl, sym, _∙_, ap, subst}
-use lib.Dec.{ltb}
+use lib.Dec.{eqb, ltb}
 use lib.Ieee.{Float, le}
 use lib.ListN.{getD}
 use native.Mathlib.Omega.{arith}
@@ -17,13 +17,14 @@ use Rattle.rules.specs.declared.EventForm.{EventForm}
 use Rattle.rules.specs.declared.Element.{Element}
 use Rattle.rules.specs.declared.RawRecord.{RawRecord}
 use Rattle.rules.specs.Names.{nowhere}
-use Rattle.rules.specs.Sheets.{elementAxis}
+use Rattle.rules.specs.Sheets.{elementAxis, elementButton}
+use Rattle.rules.specs.Forms.{kindAxis}
 use Rattle.rules.specs.Places.{placeOf}
 use Rattle.rules.specs.Refusals.{thresholdsRefusal}
 use Rattle.rules.specs.Events.{formEvent}
 use Rattle.rules.specs.State.{nextCounter}
 use Rattle.rules.specs.Hub.{elementAt}
-use Rattle.rules.specs.Step.{updatedOf, updatedAt, stepHub}
+use Rattle.rules.specs.Step.{recordKind, updatedOf, updatedAt, stepHub}
 use Rattle.rules.specs.Calls.{freshHub, newBy, newOf, registerRefusal, registeredAt, registerBy, registerOf, updateFormBy, countedAt, incOf, resetOf}
 use Rattle.promises.specs.Waiting.{waitingList}
 use Rattle.promises.specs.Reach.{Reached, reached-sound}
@@ -39,10 +40,10 @@ use Rattle.history.specs.Serve.{Tells, serve-tells}
 use Rattle.history.specs.Accepted.{Good, good}
 use Rattle.history.specs.Own.{folded}
 use Rattle.history.specs.Records.{Place, rejoined, unconcerned}
-use Rattle.history.specs.Concerned.{concerned, button-taken, trigger-taken}
+use Rattle.history.specs.Concerned.{Concerns, concerned, button-taken, trigger-taken, spoken-small}
 use Rattle.history.specs.Played.{Played, Repeats, fresh, register, take, serve, inc, reset, repeat, reached, ready, refusal, update-is}
 use Rattle.history.specs.Register.{next, pads-are}
-use Rattle.history.specs.Sorts.{Sort, button, trigger, readsOf, Is, Same, same-place, place-back, is-back, step-same, counted-same, update-same, old-back, old-is}
+use Rattle.history.specs.Sorts.{Sort, button, silent, trigger, readsOf, Is, Same, same-place, place-back, is-back, step-same, counted-same, update-same, old-back, old-is}
 use Rattle.history.specs.Tidy.{tidy}
 use Rattle.history.specs.Fed.{form-told}
 use Rattle.history.specs.Grown.{old-tells, new-tells}
@@ -67,16 +68,19 @@ module _ (r : RawRecord) (p : ℕ) (other : r .pad ≡ p → ⊥) where
 reads-other : (t : Sort) (p c : ℕ) (r : RawRecord) (rs : List RawRecord) → rejoins p r ≡ false → concerns p c r ≡ false → readsOf t p c (r ∷ rs) ≡ readsOf t p c rs
 unfolding buttonReads triggerReads
 reads-other button p c r rs j e = rw (j, e)
+reads-other silent p c r rs j e = refl
 reads-other (trigger on off el) p c r rs j e = rw (j, e)
 
 reads-joined : (t : Sort) (p c : ℕ) (r : RawRecord) (rs : List RawRecord) → rejoins p r ≡ true → readsOf t p c (r ∷ rs) ≡ nothing
 unfolding buttonReads triggerReads
 reads-joined button p c r rs j = rw j
+reads-joined silent p c r rs j = refl
 reads-joined (trigger on off el) p c r rs j = rw j
 
 reads-none : (t : Sort) (p c : ℕ) → readsOf t p c [] ≡ nothing
 unfolding buttonReads triggerReads
 reads-none button p c = refl
+reads-none silent p c = refl
 reads-none (trigger on off el) p c = refl
 
 pub register-more : (number : ℕ) (h : Hub) (s : List ℕ) → h .pads ≤ registerBy number h s .hub .pads
@@ -150,12 +154,25 @@ module _ (h : Hub) (w : Ready h) (to : Reached h) (p c : ℕ) (pl : Place h p c)
   unfolding triggerReads
   own-reads on off el j e = rw (j, e)
 
+  -- a record of a code that is not listed is refused
+  unlisted : Concerns p c r → getD (h .kinds) k 0 ≡ 0 → ⊥
+  unfolding recordKind
+  unlisted own none =
+      let here : placeOf (h .codes) (r .pad) (r .code) ≡ k =
+      ap (λ (q : ℕ). placeOf (h .codes) q (r .code)) (own .pad) ∙ ap (λ (d : ℕ). placeOf (h .codes) p d) (own .code) in
+      listed (eqb (r .kind) kindAxis) (sym (ok .element (spoken-small (r .kind) (own .spoken))) ∙ (ap (λ (i : ℕ). getD (h .kinds) i 0) here ∙ none))
+    where
+      listed : (value : Bool) → _≡_ {A = ℕ} (cond value elementAxis elementButton) 0 → ⊥
+      listed true e = omega arith
+      listed false e = omega arith
+
   own-by : (u : Sort) → Is u h k → Tell h k (readsOf u p c rs) → rejoins p r ≡ false → concerns p c r ≡ true → After (readsOf u p c (r ∷ rs))
   unfolding buttonReads
   own-by button i told j e =
       rw (j, e)
       (button-taken Proper proper-eq zero-proper one-proper h w desk (reached-sound to) p c pl r ok none (buttonReads p c rs .pressed) (buttonReads p c rs .value)
       told j (concerned p c r e) (i .kind))
+  own-by silent i told j e = absurd (unlisted (concerned p c r e) (i .kind))
   own-by (trigger on off el) i told j e =
       let was = triggerReads on off el p c rs in
       let raw = trigger-zoned to p (pl .pad) c (i .kind) (r .value) (ok .within) in

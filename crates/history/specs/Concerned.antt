@@ -33,9 +33,9 @@ use Rattle.history.specs.Waits.{sheetOf, axialAt, zonedAt}
 use Rattle.history.specs.Views.{sees, own-is}
 use Rattle.history.specs.Serve.{Tells}
 use Rattle.history.specs.Accepted.{Good}
-use Rattle.history.specs.Take.{Fine, take-tells}
+use Rattle.history.specs.Take.{Fine, take-tells, taken-as}
 use Rattle.history.specs.Own.{press-fine, trigger-fine, folded}
-use Rattle.history.specs.Records.{Place, taken, given-as, After, now-pressed, now-fits, still, same}
+use Rattle.history.specs.Records.{Place, After, now-pressed, now-fits, still, same}
 use Rattle.history.specs.Truth.{false-true}
 
 -- ---- what a record that concerns a code is
@@ -113,9 +113,8 @@ module _ (P : Float → Type 0) (alike : (a b : Float) → P a → P b → eq a 
   unfolding pressedAt readPressed cellAt
   put-by m e d is on v fine =
       take-tells P alike h w sound r none k (pl .found) (still P alike zero-fits h w desk sound p c pl r ok none b f t away) d
-      (taken P alike zero-fits h w desk sound p c pl r ok none
-      ∙ (given-as P alike zero-fits h w desk sound p c pl r ok none m e
-      ∙ (ap (λ (j : ℕ). dispatchBy m r (getD (h .names) j noName) (elementAt h j) (pressedAt h j) (h .pressed) (h .released) (h .reversed)) here ∙ is)))
+      (taken-as h r w none m e
+      ∙ (ap (λ (j : ℕ). dispatchBy m r (getD (h .names) j noName) (elementAt h j) (pressedAt h j) (h .pressed) (h .released) (h .reversed)) here ∙ is))
       on v fine
 
   -- ---- a button

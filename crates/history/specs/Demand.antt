@@ -1,38 +1,39 @@
 -- Demand 3 for buttons and triggers: "when none wait, every button, trigger .. reads as 01's history rule says, which knows no queue". Whatever was played, by
 -- the queries that an overlay calls. Assumes nothing.
 use Prim.Native.Nat.{ℕ, _<_}
-use mathlib.Core.Bool.{Bool, true, false, not, _&&_}
+use mathlib.Core.Bool.{Bool, true, false, not, _&&_, _||_}
 use mathlib.Core.List.{List, []}
 use mathlib.Core.Path.{_≡_, refl, sym, _∙_, ap}
 use lib.Dec.{eqb, ltb}
 use lib.Ieee.{Float}
 use lib.ListN.{getD, List·getD-eq-default}
 use native.Mathlib.Omega.{arith}
-use borrow.Author.Tests.{lt-ltb, ltb-true, ltb-false, leb-true, lt-leb}
+use borrow.Author.Tests.{lt-ltb, ltb-true, ltb-false, leb-true, lt-leb, eqb-true}
 use Rattle.rules.specs.declared.Hub.{Hub}
 use Rattle.rules.specs.declared.Event.{Event}
 use Rattle.rules.specs.declared.RawRecord.{RawRecord}
 use Rattle.rules.specs.declared.TruthAnswer.the-variants as truthAnswer
 use Rattle.rules.specs.declared.ValueAnswer.the-variants as valueAnswer
-use Rattle.rules.specs.Names.{padLimit, nowhere, noName, isAxis, isButton, isHat, dpadRight, unknownAxis, dpadX, positiveCode, negativeCode}
+use Rattle.rules.specs.Names.{padLimit, nowhere, noName, isAxis, isButton, isHat, dpadRight, unknownAxis, dpadX, positiveCode, negativeCode, codeUp, codeDown, codeLeft, codeRight}
 use Rattle.rules.specs.Sheets.{elementButton, elementAxis}
 use Rattle.rules.specs.Refusals.{standsOf, unlessFits}
 use Rattle.rules.specs.State.{readPressed, readValue}
 use Rattle.rules.specs.Hub.{placeIn, kindAt, elementAt, pressedAt, movedAt, valueAt}
 use Rattle.rules.specs.Queries.{padRefusal, truthBy, valueBy, pressedByCode, valueByCode}
 use Rattle.promises.specs.Waiting.{waitingList}
-use Rattle.registered.specs.Pads.{Desk, reached-desk}
+use Rattle.registered.specs.Pads.{Desk, reached-desk, direction-kept}
 use Rattle.signs.specs.Proper.{Proper, proper-eq}
-use Rattle.history.specs.Rule.{Reading, isDirection, buttonReads, triggerReads}
+use Rattle.history.specs.Rule.{Reading, isDirection, buttonReads, triggerReads, nothing}
 use Rattle.history.specs.Cells.{cellAt, cellPressed, cellValue}
 use Rattle.history.specs.Waits.{Sheet, sheetOf, axialAt, takes}
 use Rattle.history.specs.Served.{due}
 use Rattle.history.specs.Serve.{Tells}
 use Rattle.history.specs.Records.{Place, none-waits}
 use Rattle.history.specs.Played.{Played, reached}
-use Rattle.history.specs.Sorts.{button, trigger, Is}
+use Rattle.history.specs.Sorts.{button, trigger, Is, silent}
 use Rattle.history.specs.Codes.{tells}
-use Rattle.history.specs.Truth.{true-false}
+use Rattle.history.specs.Truth.{false-true, true-false}
+use Rattle.history.specs.Partner.{unlisted-name}
 
 -- what the two queries of a code answer
 pub record Reads (h : Hub) (p c : ℕ) (x : Reading) : Type 0 where
@@ -146,3 +147,36 @@ module _ {h : Hub} {rs : List RawRecord} (w : Played h rs) (none : h .waiting �
       let pl = element-place h p c free (reached-desk (reached w)) old (button-axis (getD (h .names) (placeIn h p c) noName) name) (rw (kind, name)) (λ zero. omega arith) in
       answers (triggerReads (h .pressed) (h .released) (elementAt h (placeIn h p c)) p c rs) old
       (tells p c (trigger (h .pressed) (h .released) (elementAt h (placeIn h p c))) w pl (record { kind = kind; name = name; pressed = refl; released = refl; element = refl }))
+
+  -- ---- directions that the sheet does not list
+
+  direction-found : (a b d e : Bool) → eqb c codeUp ≡ a → eqb c codeDown ≡ b → eqb c codeLeft ≡ d → eqb c codeRight ≡ e → (a || (b || (d || e))) ≡ true → p < h .pads
+      → placeIn h p c < nowhere
+  direction-found true b d e ea eb ed ee is old = rw (eqb-true c codeUp ea) (direction-kept (reached w) p old 0 (omega arith))
+  direction-found false true d e ea eb ed ee is old = rw (eqb-true c codeDown eb) (direction-kept (reached w) p old 1 (omega arith))
+  direction-found false false true e ea eb ed ee is old = rw (eqb-true c codeLeft ed) (direction-kept (reached w) p old 2 (omega arith))
+  direction-found false false false true ea eb ed ee is old = rw (eqb-true c codeRight ee) (direction-kept (reached w) p old 3 (omega arith))
+  direction-found false false false false ea eb ed ee is old = false-true is
+
+  untaken : getD (h .converts) p false ≡ false → (n : ℕ) → takes (sheetOf h) p n ≡ true → ⊥
+  unfolding takes
+  untaken converts n t = false-true (sym (ap (λ (b : Bool). b && isHat n) converts) ∙ t)
+
+  silent-place : p < h .pads → placeIn h p c < nowhere → kindAt h (placeIn h p c) ≡ 0 → getD (h .converts) p false ≡ false → Place h p c
+  unfolding axialAt isAxis
+  silent-place old found none converts =
+      let name = unlisted-name h (reached-desk (reached w)) p old c found none in
+      record {
+        pad = old;
+        found = found;
+        bare = rw (name, none);
+        plus = λ n t same. untaken converts n t;
+        minus = λ n t same. untaken converts n t;
+      }
+
+  -- on a pad that does not convert they read false and 0.0, which is more than 01 asks
+  pub unlisted : p < h .pads → isDirection c ≡ true → kindAt h (placeIn h p c) ≡ 0 → getD (h .converts) p false ≡ false → Reads h p c nothing
+  unfolding isDirection
+  unlisted old direction none converts =
+      let found = direction-found (eqb c codeUp) (eqb c codeDown) (eqb c codeLeft) (eqb c codeRight) refl refl refl refl direction old in
+      answers nothing old (tells p c silent w (silent-place old found none converts) (record { kind = none }))

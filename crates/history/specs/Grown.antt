@@ -20,16 +20,10 @@ use Rattle.pad.specs.Lookup.{place-stands, places-differ}
 use Rattle.registered.specs.Pads.{Desk}
 use Rattle.history.specs.Cells.{Cell, cellAt, cellPressed, cellValue, hits, Long}
 use Rattle.history.specs.Turns.{ev}
-use Rattle.history.specs.Waits.{Sheet, sheetOf, All, empty, more, Fit, press, release, change, stick}
+use Rattle.history.specs.Waits.{sheetOf, All, empty, more, Fit, fit-pad}
 use Rattle.history.specs.Served.{due, dueBy, dueType, Waiting, away, value}
 use Rattle.history.specs.Serve.{Tells}
 use Rattle.history.specs.Register.{next, same-queue, same-hits, still-fits, more-pads, old-place, old-zoned, old-cell, old-moved, new-touched, new-moved}
-
-pub fit-pad : {s : Sheet} {e : Event} → Fit s e → e .pad < s .pads
-fit-pad (press i) = i
-fit-pad (release i) = i
-fit-pad (change i) = i
-fit-pad (stick i a f) = i
 
 module _ (P : Float → Type 0) (alike : (a b : Float) → P a → P b → eq a b ≡ true → a ≡ b) (zero-fits : P zero32) (h : Hub) (s : List ℕ) (desk : Desk h)
     (ok : registerRefusal (h .pads) s ≡ 0) where

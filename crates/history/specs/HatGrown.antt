@@ -22,10 +22,9 @@ use Rattle.promises.specs.Waiting.{waitingList}
 use Rattle.pad.specs.Lookup.{place-stands, places-differ}
 use Rattle.registered.specs.Pads.{Desk}
 use Rattle.history.specs.Cells.{Cell, cellAt, cellPressed, cellType, hits, Long}
-use Rattle.history.specs.Waits.{sheetOf, axialAt, takes, All, empty, more, Fit}
+use Rattle.history.specs.Waits.{sheetOf, axialAt, takes, All, empty, more, Fit, fit-pad}
 use Rattle.history.specs.Exact.{putAt}
 use Rattle.history.specs.Register.{next, same-queue, same-hits, old-place, old-takes, old-name, old-kind, old-element, old-axial, old-cell, old-moved, new-touched, new-moved}
-use Rattle.history.specs.Grown.{fit-pad}
 use Rattle.history.specs.Written.{writes, Never}
 use Rattle.history.specs.Sides.{Shows, Sides, Plain}
 use Rattle.history.specs.Hats.{Axle}

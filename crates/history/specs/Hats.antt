@@ -25,7 +25,7 @@ use Rattle.rules.specs.Forms.{kindPressed, kindAxis}
 use Rattle.rules.specs.Places.{placeOf}
 use Rattle.rules.specs.Events.{queuedOf}
 use Rattle.rules.specs.State.{readPressed}
-use Rattle.rules.specs.Dispatch.{Move, pressing, moving, joining, leaving, moveOf, axisName, amount, from, single, pressGives, moveGives, dispatchBy, dispatchOf}
+use Rattle.rules.specs.Dispatch.{pressing, moving, joining, leaving, moveOf, axisName, amount, from, single, pressGives, moveGives, dispatchBy}
 use Rattle.rules.specs.Filters.{hatBy, hatGives}
 use Rattle.rules.specs.Hub.{placeIn, elementAt, pressedAt, movedAt, hatPlace, viewAt, viewOf}
 use Rattle.rules.specs.Step.{takenOf, markedOf, recordKind, stepHub}
@@ -36,12 +36,12 @@ use Rattle.registered.specs.Pads.{Desk}
 use Rattle.history.specs.Rule.{rejoins, speaks}
 use Rattle.history.specs.Cells.{Cell, cellAt, cellPressed}
 use Rattle.history.specs.Turns.{outOf, moreOf, hat-out, hat-more}
-use Rattle.history.specs.Steps.{Ready, lookAt, record-taken}
+use Rattle.history.specs.Steps.{Ready, lookAt}
 use Rattle.history.specs.Waits.{Sheet, sheetOf, takes}
 use Rattle.history.specs.Exact.{putAt, movesAt}
 use Rattle.history.specs.Views.{sees}
 use Rattle.history.specs.Accepted.{Good}
-use Rattle.history.specs.Take.{gives-is, queueOf, Spares}
+use Rattle.history.specs.Take.{queueOf, Spares, taken-as}
 use Rattle.history.specs.Other.{Clear, move-aside, join-aside, leave-aside}
 use Rattle.history.specs.Records.{none-waits, cell-same, moved-same, cell-off, moved-off, moving-kind, apart-by, joins-move}
 use Rattle.history.specs.Concerned.{press-move, spoken-small}
@@ -58,22 +58,6 @@ pub record Axle (h : Hub) (p n : ℕ) : Type 0 where
   pub minus : Plain (sheetOf h) (placeOf (h .codes) p (negativeCode n))
   pub no-plus : getD (h .kinds) (placeOf (h .codes) p (positiveCode n)) 0 ≡ 0
   pub no-minus : getD (h .kinds) (placeOf (h .codes) p (negativeCode n)) 0 ≡ 0
-
--- ---- the step
-
-pub taken-as : (h : Hub) (r : RawRecord) → Ready h → h .waiting ≡ 0 → (m : Move) → moveOf (r .kind) ≡ m
-    → takenOf h (lookAt r)
-    ≡ dispatchBy m r (getD (h .names) (placeOf (h .codes) (r .pad) (r .code)) noName) (elementAt h (placeOf (h .codes) (r .pad) (r .code)))
-    (pressedAt h (placeOf (h .codes) (r .pad) (r .code))) (h .pressed) (h .released) (h .reversed)
-unfolding dispatchOf
-taken-as h r w none m e =
-    record-taken h r none
-    ∙ (gives-is h r w
-    ∙ ap
-    (λ (t : Move).
-    dispatchBy t r (getD (h .names) (placeOf (h .codes) (r .pad) (r .code)) noName) (elementAt h (placeOf (h .codes) (r .pad) (r .code)))
-    (pressedAt h (placeOf (h .codes) (r .pad) (r .code))) (h .pressed) (h .released) (h .reversed))
-    e)
 
 module _ (h : Hub) (w : Ready h) (desk : Desk h) (sound : Sound h) (p n : ℕ) (ax : Axle h p n) (r : RawRecord) (ok : Good h r) (none : h .waiting ≡ 0) where
   abbrev s : Sheet

@@ -19,6 +19,10 @@ pub mod Records
 pub mod Concerned
 pub mod Played
 pub mod Pumps
+pub mod Flags
+pub mod Tails
+pub mod Brings
+pub mod Handed
 pub mod Register
 pub mod Sorts
 pub mod Tidy

@@ -8,7 +8,7 @@ use mathlib.Core.Path.{_≡_, refl, sym, _∙_, ap}
 use lib.Dec.{eqb, ltb}
 use lib.ListN.{length, getD}
 use native.Mathlib.Omega.{arith}
-use borrow.Author.Tests.{ltb-true, eqb-false}
+use borrow.Author.Tests.{ltb-true, eqb-true, eqb-false}
 use Rattle.rules.specs.declared.Hub.{Hub}
 use Rattle.rules.specs.declared.Row.{Row}
 use Rattle.rules.specs.Names.{padLimit, placesPerPad, nowhere, noName, isAxis, partnerOf, leftStickX, leftStickY, rightStickX, rightStickY, dpadX, dpadY}
@@ -140,6 +140,21 @@ partner-axis n = by (eqb n leftStickX) (eqb n leftStickY) (eqb n rightStickX) (e
     by false false false true x y ea eb ec ed ex ey = inr (rw (ea, eb, ec, ed))
     by false false false false true y ea eb ec ed ex ey = inr (rw (ea, eb, ec, ed, ex))
     by false false false false false true ea eb ec ed ex ey = inr (rw (ea, eb, ec, ed, ex, ey))
+    by false false false false false false ea eb ec ed ex ey = inl (rw (ea, eb, ec, ed, ex, ey))
+
+-- and its partner is the axis
+pub partner-back : (n : ℕ) → (partnerOf n ≡ 0) ⊎ (partnerOf (partnerOf n) ≡ n)
+unfolding partnerOf
+partner-back n = by (eqb n leftStickX) (eqb n leftStickY) (eqb n rightStickX) (eqb n rightStickY) (eqb n dpadX) (eqb n dpadY) refl refl refl refl refl refl
+  where
+    by : (a b c d x y : Bool) → eqb n leftStickX ≡ a → eqb n leftStickY ≡ b → eqb n rightStickX ≡ c → eqb n rightStickY ≡ d → eqb n dpadX ≡ x
+        → eqb n dpadY ≡ y → (partnerOf n ≡ 0) ⊎ (partnerOf (partnerOf n) ≡ n)
+    by true b c d x y ea eb ec ed ex ey = inr (rw (eqb-true n leftStickX ea))
+    by false true c d x y ea eb ec ed ex ey = inr (rw (eqb-true n leftStickY eb))
+    by false false true d x y ea eb ec ed ex ey = inr (rw (eqb-true n rightStickX ec))
+    by false false false true x y ea eb ec ed ex ey = inr (rw (eqb-true n rightStickY ed))
+    by false false false false true y ea eb ec ed ex ey = inr (rw (eqb-true n dpadX ex))
+    by false false false false false true ea eb ec ed ex ey = inr (rw (eqb-true n dpadY ey))
     by false false false false false false ea eb ec ed ex ey = inl (rw (ea, eb, ec, ed, ex, ey))
 
 axis-some : (n : ℕ) → isAxis n ≡ true → n ≡ noName → ⊥

@@ -21,7 +21,7 @@ use Rattle.rules.specs.Names.{nowhere, noName, placesPerPad, positiveCode, nega
 use Rattle.rules.specs.Sheets.{elementAxis}
 use Rattle.rules.specs.Forms.{kindPressed, kindReleased, kindAxis, kindConnected}
 use Rattle.rules.specs.Places.{placeOf, clearedOf}
-use Rattle.rules.specs.Dispatch.{Move, pressing, moving, joining, leaving, moveOf, from, single, dispatchBy, dispatchOf}
+use Rattle.rules.specs.Dispatch.{Move, pressing, moving, joining, leaving, moveOf, from, single, dispatchBy}
 use Rattle.rules.specs.Hub.{elementAt, pressedAt, movedAt, touchedAt, viewOf}
 use Rattle.rules.specs.Step.{takenOf, markedOf, joinRun, stepHub, recordKind}
 use Rattle.promises.specs.Waiting.{waitingList, ringList}
@@ -31,13 +31,13 @@ use Rattle.registered.specs.Pads.{Desk}
 use Rattle.history.specs.Rule.{rejoins, speaks, concerns}
 use Rattle.history.specs.Cells.{Cell, cellAt, cellPressed, cellValue}
 use Rattle.history.specs.Marks.{cleared-before, cleared-behind, cleared-inside}
-use Rattle.history.specs.Steps.{Ready, lookAt, record-taken}
+use Rattle.history.specs.Steps.{Ready, lookAt}
 use Rattle.history.specs.Waits.{sheetOf, axialAt, takes}
 use Rattle.history.specs.Served.{due}
 use Rattle.history.specs.Views.{sees}
 use Rattle.history.specs.Serve.{Tells}
 use Rattle.history.specs.Accepted.{Good}
-use Rattle.history.specs.Take.{gives-is, Fine, take-tells, Spares, spared}
+use Rattle.history.specs.Take.{Fine, take-tells, Spares, spared, taken-as}
 use Rattle.history.specs.Other.{Clear, move-aside, join-aside, leave-aside}
 use Rattle.history.specs.Truth.{false-true}
 
@@ -163,12 +163,6 @@ module _ (P : Float → Type 0) (alike : (a b : Float) → P a → P b → eq a 
   abbrev at : ℕ
   at = placeOf (h .codes) (r .pad) (r .code)
 
-  abbrev pub given : Dispatched
-  given = dispatchOf r (getD (h .names) at noName) (elementAt h at) (pressedAt h at) (h .pressed) (h .released) (h .reversed)
-
-  pub taken : takenOf h (lookAt r) ≡ given
-  taken = record-taken h r none ∙ gives-is h r w
-
   abbrev pub After : Bool → Float → Type 0
   After b f = Tells P alike (sheetOf (stepHub h (lookAt r))) (stepHub h (lookAt r)) k (waitingList (stepHub h (lookAt r))) b f
 
@@ -200,27 +194,16 @@ module _ (P : Float → Type 0) (alike : (a b : Float) → P a → P b → eq a 
   abbrev see : Event → View
   see e = viewOf (markedOf h r) e
 
-  -- "since the pad's last Connected": nothing
-  joins : rejoins p r ≡ true → moveOf (r .kind) ≡ joining
-  joins e = joins-move p r e
-
-  -- a record given as one that joins, or that leaves
-  pub given-as : (m : Move) → moveOf (r .kind) ≡ m
-      → given ≡ dispatchBy m r (getD (h .names) at noName) (elementAt h at) (pressedAt h at) (h .pressed) (h .released) (h .reversed)
-  unfolding dispatchOf
-  given-as m e =
-      ap (λ (t : Move). dispatchBy t r (getD (h .names) at noName) (elementAt h at) (pressedAt h at) (h .pressed) (h .released) (h .reversed)) e
-
   pub rejoined : rejoins p r ≡ true → After false zero32
   rejoined e =
       let off = cell-off h r w p k (stands .own) (pl .found) e in
       let still = moved-off h r w p k (stands .own) (pl .found) e in
-      let d : given ≡ single (from r Connected) = given-as joining (joins e) in
+      let taken : takenOf h (lookAt r) ≡ single (from r Connected) = taken-as h r w none joining (joins-move p r e) in
       let pressed : cellPressed x ≡ false = unfold cellAt in rw off in
       let value : cellValue x ≡ zero32 = unfold cellAt in rw off in
       let fits : P (cellValue x) = subst P (sym value) zero-fits in
       let fine = spared P alike (sheetOf h) k (single (from r Connected)) (see (from r Connected)) x fits (join-aside (sheetOf h) k (pl .bare) r (ok .pad) see (λ e. sees h r w desk e)) in
-      take-tells P alike h w sound r none k (pl .found) still (single (from r Connected)) (taken ∙ d) false zero32
+      take-tells P alike h w sound r none k (pl .found) still (single (from r Connected)) taken false zero32
       (subst (λ (b : Bool). Fine P alike (sheetOf h) k (single (from r Connected)) (see (from r Connected)) x b zero32) pressed
       (subst (λ (f : Float). Fine P alike (sheetOf h) k (single (from r Connected)) (see (from r Connected)) x (cellPressed x) f) value fine))
 
@@ -242,25 +225,25 @@ module _ (P : Float → Type 0) (alike : (a b : Float) → P a → P b → eq a 
     now-fits = subst P (sym (ap cellValue same)) (t .proper)
 
     -- a step whose event leaves the place alone
-    leaves : (d : Dispatched) → given ≡ d → Spares (sheetOf h) k d (see (d .event)) → After b f
+    leaves : (d : Dispatched) → takenOf h (lookAt r) ≡ d → Spares (sheetOf h) k d (see (d .event)) → After b f
     leaves d is spares =
         let fine = spared P alike (sheetOf h) k d (see (d .event)) x now-fits spares in
-        take-tells P alike h w sound r none k (pl .found) still d (taken ∙ is) b f
+        take-tells P alike h w sound r none k (pl .found) still d is b f
         (subst (λ (a : Bool). Fine P alike (sheetOf h) k d (see (d .event)) x a f) now-pressed
         (subst (λ (a : Float). Fine P alike (sheetOf h) k d (see (d .event)) x (cellPressed x) a) now-value fine))
 
     silent-by : (moveOf (r .kind) ≡ joining) ⊎ (moveOf (r .kind) ≡ leaving) → After b f
     silent-by (inl j) =
-        leaves (single (from r Connected)) (given-as joining j)
+        leaves (single (from r Connected)) (taken-as h r w none joining j)
         (join-aside (sheetOf h) k (pl .bare) r (ok .pad) see (λ e. sees h r w desk e))
     silent-by (inr l) =
-        leaves (single (from r Disconnected)) (given-as leaving l)
+        leaves (single (from r Disconnected)) (taken-as h r w none leaving l)
         (leave-aside (sheetOf h) k (pl .bare) r (ok .pad) see (λ e. sees h r w desk e))
 
     spoken-by : (eqb at k ≡ false) → After b f
     spoken-by apart =
         leaves (dispatchBy (moveOf (r .kind)) r (getD (h .names) at noName) (elementAt h at) (pressedAt h at) (h .pressed) (h .released) (h .reversed))
-        (given-as (moveOf (r .kind)) refl)
+        (taken-as h r w none (moveOf (r .kind)) refl)
         (move-aside (sheetOf h) k (pl .bare) r (ok .pad) see (λ e. sees h r w desk e) apart (getD (h .names) at noName) (clear _) (clear _) refl
         (elementAt h at) (pressedAt h at) (h .pressed) (h .released) (h .reversed) (moveOf (r .kind)) axis-kind)
 

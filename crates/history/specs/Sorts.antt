@@ -1,4 +1,4 @@
--- The sorts of codes that the rule tells of by their own records: buttons and triggers. What makes a place one of them is kept by registration, and no other
+-- The sorts of codes that the rule tells of by their own records: buttons and triggers, and codes that are not listed, which have none. What makes a place one of them is kept by registration, and no other
 -- call changes it. Assumes nothing.
 use Prim.Native.Nat.{ℕ, _<_}
 use mathlib.Core.Bool.{true}
@@ -19,21 +19,27 @@ use Rattle.rules.specs.Step.{updatedOf, updatedAt, turnedOf, pushedOf, markedOf
 use Rattle.rules.specs.Calls.{countedAt, registerRefusal, registeredAt}
 use Rattle.pad.specs.Lookup.{place-stands}
 use Rattle.registered.specs.Pads.{Desk}
-use Rattle.history.specs.Rule.{Reading, buttonReads, triggerReads}
+use Rattle.history.specs.Rule.{Reading, nothing, buttonReads, triggerReads}
 use Rattle.history.specs.Waits.{Sheet, sheetOf, axialAt, takes}
 use Rattle.history.specs.Records.{Place}
 use Rattle.history.specs.Register.{next, old-place, old-takes, old-name, old-kind, old-element, old-axial}
 
 pub data Sort : Type 0 where
   button : Sort
+  silent : Sort
   trigger : Float → Float → Element → Sort
 
 abbrev pub readsOf : Sort → ℕ → ℕ → List RawRecord → Reading
 readsOf button p c rs = buttonReads p c rs
+readsOf silent p c rs = nothing
 readsOf (trigger pressed released e) p c rs = triggerReads pressed released e p c rs
 
 pub record IsButton (h : Hub) (k : ℕ) : Type 0 where
   pub kind : getD (h .kinds) k 0 ≡ elementButton
+
+-- a code that the sheet does not list has no records
+pub record IsSilent (h : Hub) (k : ℕ) : Type 0 where
+  pub kind : getD (h .kinds) k 0 ≡ 0
 
 pub record IsTrigger (h : Hub) (k : ℕ) (on off : Float) (e : Element) : Type 0 where
   pub kind : getD (h .kinds) k 0 ≡ elementAxis
@@ -44,6 +50,7 @@ pub record IsTrigger (h : Hub) (k : ℕ) (on off : Float) (e : Element) : Type 0
 
 abbrev pub Is : Sort → Hub → ℕ → Type 0
 Is button h k = IsButton h k
+Is silent h k = IsSilent h k
 Is (trigger pressed released e) h k = IsTrigger h k pressed released e
 
 -- ---- calls that leave the sheets alone
@@ -79,6 +86,8 @@ module _ (h g : Hub) (a : Same h g) (p c : ℕ) where
 
   pub is-back : (t : Sort) → Is t g (placeOf (g .codes) p c) → Is t h (placeOf (h .codes) p c)
   is-back button i =
+      record { kind = ap (λ (k : ℕ). getD (h .kinds) k 0) (sym same-place) ∙ (ap (λ (l : List ℕ). getD l (placeOf (g .codes) p c) 0) (sym (a .kinds)) ∙ i .kind) }
+  is-back silent i =
       record { kind = ap (λ (k : ℕ). getD (h .kinds) k 0) (sym same-place) ∙ (ap (λ (l : List ℕ). getD l (placeOf (g .codes) p c) 0) (sym (a .kinds)) ∙ i .kind) }
   is-back (trigger pressed released e) i =
       record {
@@ -132,6 +141,9 @@ module _ (h : Hub) (s : List ℕ) (desk : Desk h) (ok : registerRefusal (h .pads
   pub old-is : (t : Sort) → placeOf (h .codes) p c < nowhere → Is t then (placeOf (then .codes) p c) → Is t h (placeOf (h .codes) p c)
   unfolding registeredAt
   old-is button found i =
+      let own = place-stands (h .codes) p c found .own in
+      record { kind = sym (old-kind h s desk ok p old (placeOf (h .codes) p c) own) ∙ (ap (λ (k : ℕ). getD (then .kinds) k 0) (sym at) ∙ i .kind) }
+  old-is silent found i =
       let own = place-stands (h .codes) p c found .own in
       record { kind = sym (old-kind h s desk ok p old (placeOf (h .codes) p c) own) ∙ (ap (λ (k : ℕ). getD (then .kinds) k 0) (sym at) ∙ i .kind) }
   old-is (trigger pressed released e) found i =

@@ -19,14 +19,14 @@ use Rattle.rules.specs.Places.{placeOf, presentNames}
 use Rattle.rules.specs.Events.{codeType, codeOf, queuedOf}
 use Rattle.rules.specs.State.{writesAxisType}
 use Rattle.rules.specs.Filters.{Direction, hatBy, hatGives}
-use Rattle.rules.specs.Dispatch.{dispatchOf, single, double}
+use Rattle.rules.specs.Dispatch.{Move, moveOf, dispatchBy, dispatchOf, single, double}
 use Rattle.rules.specs.Hub.{placeIn, elementAt, pressedAt, movedAt, viewOf}
 use Rattle.rules.specs.Step.{recordGives, takenOf, markedOf, stepHub}
 use Rattle.promises.specs.Waiting.{waitingList, empty-rest}
 use Rattle.promises.specs.Queue.{Sound, pushesIn, nothing-lost}
 use Rattle.history.specs.Cells.{Cell, cellAt, cellPressed, cellValue, hits}
 use Rattle.history.specs.Turns.{ev, outOf, moreOf, plainType, plain-out, plain-more, hat-out, hat-more}
-use Rattle.history.specs.Steps.{Ready, lookAt, pushes-of, cell-of, moved-of}
+use Rattle.history.specs.Steps.{Ready, lookAt, record-taken, pushes-of, cell-of, moved-of}
 use Rattle.history.specs.Waits.{Sheet, sheetOf, axialAt, All, empty, more, Fit, press, release, change}
 use Rattle.history.specs.Exact.{Sees, putAt, movesAt, Apart, same-either, down-either, stays, queues}
 use Rattle.history.specs.Served.{due, Waiting, put, apart-waits, apart-later}
@@ -44,6 +44,21 @@ gives-is h r w =
     dispatchOf r (getD (cond renamed (h .renames) (h .names)) (placeIn h (r .pad) (r .code)) noName) (elementAt h (placeIn h (r .pad) (r .code)))
     (pressedAt h (placeIn h (r .pad) (r .code))) (h .pressed) (h .released) (h .reversed))
     (w .named (r .pad))
+
+-- what is taken, by the record's kind
+pub taken-as : (h : Hub) (r : RawRecord) → Ready h → h .waiting ≡ 0 → (m : Move) → moveOf (r .kind) ≡ m
+    → takenOf h (lookAt r)
+    ≡ dispatchBy m r (getD (h .names) (placeOf (h .codes) (r .pad) (r .code)) noName) (elementAt h (placeOf (h .codes) (r .pad) (r .code)))
+    (pressedAt h (placeOf (h .codes) (r .pad) (r .code))) (h .pressed) (h .released) (h .reversed)
+unfolding dispatchOf
+taken-as h r w none m e =
+    record-taken h r none
+    ∙ (gives-is h r w
+    ∙ ap
+    (λ (t : Move).
+    dispatchBy t r (getD (h .names) (placeOf (h .codes) (r .pad) (r .code)) noName) (elementAt h (placeOf (h .codes) (r .pad) (r .code)))
+    (pressedAt h (placeOf (h .codes) (r .pad) (r .code))) (h .pressed) (h .released) (h .reversed))
+    e)
 
 -- what a step queues
 abbrev pub queueOf : Dispatched → View → List Event

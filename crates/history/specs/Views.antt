@@ -35,7 +35,7 @@ module _ (h : Hub) (r : RawRecord) (w : Ready h) (desk : Desk h) (e : Event) whe
       ap (λ (b : Bool). cond b (getD (marked .reconverts) (e .pad) false) (getD (marked .converts) (e .pad) false)) (marked-ready h r w .named (e .pad))
       ∙ (unfold markedOf in refl)
 
-  partner-is : partnerPlace marked (e .pad) (nameOf e) ≡ cond (eqb (partnerOf (nameOf e)) 0) nowhere (namedOf (h .names) (e .pad) (partnerOf (nameOf e)))
+  pub partner-is : partnerPlace marked (e .pad) (nameOf e) ≡ cond (eqb (partnerOf (nameOf e)) 0) nowhere (namedOf (h .names) (e .pad) (partnerOf (nameOf e)))
   unfolding partnerPlace
   partner-is = ap (λ (names : List ℕ). cond (eqb (partnerOf (nameOf e)) 0) nowhere (namedOf names (e .pad) (partnerOf (nameOf e)))) names-are
 

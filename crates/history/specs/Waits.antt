@@ -76,6 +76,12 @@ pub data Fit (s : Sheet) : Event → Type 0 where
   stick : {pad time n c : ℕ} {z : Float} → pad < s .pads → axialAt s (placeOf (s .codes) pad c) ≡ true → takes s pad n ≡ false
       → Fit s (ev pad time (Axis n c z))
 
+pub fit-pad : {s : Sheet} {e : Event} → Fit s e → e .pad < s .pads
+fit-pad (press i) = i
+fit-pad (release i) = i
+fit-pad (change i) = i
+fit-pad (stick i a f) = i
+
 same-place : (s : Sheet) (j k : ℕ) (same : Bool) → eqb j k ≡ same → axialAt s j ≡ true → axialAt s k ≡ false → same ≡ false
 same-place s j k true e a b = true-false (sym a ∙ (ap (λ (i : ℕ). axialAt s i) (borrow.Author.Tests.eqb-true j k e) ∙ b))
 same-place s j k false e a b = refl

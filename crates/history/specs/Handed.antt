@@ -1,0 +1,235 @@
+-- Demand 3: "each record hands out at most four events before the next is taken". What has been handed out since the record's step and what can still be is at
+-- most four, whatever stops and calls lie between the steps. Assumes nothing.
+use Prim.Native.Nat.{ℕ, _+_, _<_, _≤_, zero, suc, _*_}
+use mathlib.Core.Bool.{Bool, true, false, cond, _&&_}
+use mathlib.Core.List.{List, _∷_, _++_, []}
+use mathlib.Core.Path.{_≡_, refl, sym, _∙_, ap, subst}
+use lib.Dec.{eqb, ltb}
+use lib.ListN.{getD}
+use native.Mathlib.Omega.{arith}
+use borrow.Author.Tests.{ltb-true}
+use Rattle.rules.specs.declared.Hub.{Hub}
+use Rattle.rules.specs.declared.Event.{Event}
+use Rattle.rules.specs.declared.Looked.{Looked}
+use Rattle.rules.specs.declared.RawRecord.{RawRecord}
+use Rattle.rules.specs.declared.Dispatched.{Dispatched}
+use Rattle.rules.specs.Names.{nowhere, noName, partnerOf, padLimit, flagsPerPad, flagOf}
+use Rattle.rules.specs.Places.{placeOf, namedOf, clearedOf, oneIf}
+use Rattle.rules.specs.Refusals.{recordRefusal}
+use Rattle.rules.specs.Events.{nameOf}
+use Rattle.rules.specs.Filters.{filteredOf, keptOf}
+use Rattle.rules.specs.Dispatch.{moveOf, dispatchBy, single}
+use Rattle.rules.specs.Hub.{elementAt, pressedAt, frontOf, viewAt, viewOf, flagPlace}
+use Rattle.rules.specs.Step.{blankRecord, joinRun, markedOf, flagsSet, pushedOf, turnedOf, updatedAt, updatedOf, filteredIn, takenOf, recordKind, stepEvent, stepHub}
+use Rattle.promises.specs.Waiting.{waitingList, restOf, popped, empty-rest}
+use Rattle.promises.specs.Queue.{pushesIn, nothing-lost}
+use Rattle.promises.specs.Reach.{reached-sound}
+use Rattle.registered.specs.Pads.{Desk, reached-desk}
+use Rattle.history.specs.Turns.{moreOf, ev}
+use Rattle.history.specs.Steps.{Ready, look, lookAt, front-taken, pushes-of}
+use Rattle.history.specs.Waits.{sheetOf, All, head-of, Fit, Sheet, fit-pad}
+use Rattle.history.specs.Views.{sees, partner-is}
+use Rattle.history.specs.Take.{queueOf, taken-as}
+use Rattle.history.specs.Played as played
+use Rattle.history.specs.Played.{Played, take, serve, reached, ready, Repeats, refusal, update-is}
+use Rattle.history.specs.Pumps.{Led}
+use Rattle.history.specs.Tidy.{tidy}
+use Rattle.history.specs.Tails.{Tail, Less, Flagged, next-tail, buttons, lone}
+use Rattle.history.specs.Brings.{Few, brings}
+use Rattle.rules.specs.declared.EventForm.{EventForm}
+use Rattle.rules.specs.declared.EventType.the-variants.{Axis}
+use Rattle.rules.specs.State.{nextCounter}
+use Rattle.rules.specs.Calls.{registerRefusal, registeredAt, registerBy, registerOf, updateFormBy, updateOf, countedAt, incOf, resetOf}
+use Rattle.registered.specs.Columns.{accepted}
+use Rattle.history.specs.Truth.{false-true}
+use Rattle.history.specs.Marks.{cleared-before, cleared-behind}
+use Rattle.history.specs.Flags.{upAt}
+
+-- ---- the flags after a step
+
+step-flags : (h : Hub) (l : Looked) → Ready h → (d : Dispatched) → takenOf h l ≡ d
+    → stepHub h l .flags
+    ≡ flagsSet (markedOf h (l .raw) .flags) (d .event .pad) (nameOf (d .event)) (filteredOf true (viewOf (markedOf h (l .raw)) (d .event)) (d .event) .flags)
+unfolding stepHub updatedOf updatedAt turnedOf pushedOf filteredIn
+step-flags h l w d taken =
+    ap
+    (λ (on : Bool).
+    flagsSet (markedOf h (l .raw) .flags) (takenOf h l .event .pad) (nameOf (takenOf h l .event)) (filteredOf on (viewOf (markedOf h (l .raw)) (takenOf h l .event)) (takenOf h l .event) .flags))
+    (unfold markedOf in w .filters)
+    ∙ ap
+    (λ (t : Dispatched).
+    flagsSet (markedOf h (l .raw) .flags) (t .event .pad) (nameOf (t .event)) (filteredOf true (viewOf (markedOf h (l .raw)) (t .event)) (t .event) .flags))
+    taken
+
+-- what the filters see of them
+flagged : (h : Hub) (r : RawRecord) → Ready h → Desk h → (e : Event) → Flagged (markedOf h r .flags) e (viewOf (markedOf h r) e)
+unfolding viewOf viewAt
+flagged h r w desk e =
+    record { seen = refl; real = λ stands none. lone-partner (ap (λ (k : ℕ). ltb k nowhere) (sym (partner-is h r w desk e)) ∙ stands) none }
+  where
+    lone-partner : ltb (cond (eqb (partnerOf (nameOf e)) 0) nowhere (namedOf (h .names) (e .pad) (partnerOf (nameOf e)))) nowhere ≡ true → partnerOf (nameOf e) ≡ 0 → ⊥
+    lone-partner stands none = omega (arith, ltb-true nowhere nowhere (ap (λ (m : ℕ). ltb (cond (eqb m 0) nowhere (namedOf (h .names) (e .pad) m)) nowhere) (sym none) ∙ stands))
+
+front-flags : (h : Hub) → markedOf h blankRecord .flags ≡ h .flags
+unfolding markedOf joinRun clearedOf
+front-flags h = refl
+
+-- ---- the two steps
+
+take-few : {h : Hub} {rs : List RawRecord} → Played h rs → (r : RawRecord) → h .waiting ≡ 0 → Few (stepHub h (lookAt r) .flags) (waitingList (stepHub h (lookAt r)))
+take-few {h} p r none =
+    let w = ready p in
+    let desk = reached-desk (reached p) in
+    let at = placeOf (h .codes) (r .pad) (r .code) in
+    let d = dispatchBy (moveOf (r .kind)) r (getD (h .names) at noName) (elementAt h at) (pressedAt h at) (h .pressed) (h .released) (h .reversed) in
+    let taken : takenOf h (lookAt r) ≡ d = taken-as h r w none (moveOf (r .kind)) refl in
+    let queue : waitingList (stepHub h (lookAt r)) ≡ queueOf d (viewOf (markedOf h r) (d .event)) =
+    nothing-lost h (lookAt r) (reached-sound (reached p)) ∙ (ap (λ (es : List Event). es ++ pushesIn h (lookAt r)) (empty-rest h none) ∙ pushes-of h (lookAt r) w d taken) in
+    subst (λ (q : List Event). Few (stepHub h (lookAt r) .flags) q) (sym queue)
+    (subst (λ (f : List Bool). Few f (queueOf d (viewOf (markedOf h r) (d .event)))) (sym (step-flags h (lookAt r) w d taken))
+    (brings (markedOf h r .flags) r (λ e. viewOf (markedOf h r) e) (λ e. flagged h r w desk e) (moveOf (r .kind)) (getD (h .names) at noName) (elementAt h at) (pressedAt h at)
+    (h .pressed) (h .released) (h .reversed)))
+
+serve-less : {h : Hub} {rs : List RawRecord} → Played h rs → 0 < h .waiting → (b : ℕ) → Tail (h .flags) (waitingList h) b
+    → Less (stepHub h look .flags) (waitingList (stepHub h look)) b
+serve-less {h} p some b t =
+    let w = ready p in
+    let desk = reached-desk (reached p) in
+    let front = frontOf h in
+    let v = viewOf (markedOf h blankRecord) front in
+    let taken = front-taken h some in
+    let fit = head-of (subst (All (Fit (sheetOf h))) (popped h some) (tidy p)) in
+    let queue : waitingList (stepHub h look) ≡ restOf h ++ moreOf v front =
+    nothing-lost h look (reached-sound (reached p)) ∙ ap (λ (es : List Event). restOf h ++ es) (pushes-of h look w (single front) taken) in
+    let flags : stepHub h look .flags ≡ flagsSet (h .flags) (front .pad) (nameOf front) (filteredOf true v front .flags) =
+    step-flags h look w (single front) taken ∙ ap (λ (f : List Bool). flagsSet f (front .pad) (nameOf front) (filteredOf true v front .flags)) (front-flags h) in
+    let seen : Flagged (h .flags) front v = subst (λ (f : List Bool). Flagged f front v) (front-flags h) (flagged h blankRecord w desk front) in
+    subst (λ (q : List Event). Less (stepHub h look .flags) q b) (sym queue)
+    (subst (λ (f : List Bool). Less f (restOf h ++ moreOf v front) b) (sym flags)
+    (next-tail (sheetOf h) (h .flags) front (restOf h) b (subst (λ (q : List Event). Tail (h .flags) q b) (popped h some) t) v fit (sees h blankRecord w desk front) seen))
+
+-- ---- calls between the steps
+
+counted-tail : (h : Hub) (m b : ℕ) → Tail (h .flags) (waitingList h) b → Tail (countedAt h m .flags) (waitingList (countedAt h m)) b
+unfolding countedAt waitingList
+counted-tail h m b t = t
+
+form-tail : (number : ℕ) (h : Hub) (f : EventForm) (b : ℕ) → Tail (h .flags) (waitingList h) b
+    → Tail (updateFormBy number h f .hub .flags) (waitingList (updateFormBy number h f .hub)) b
+unfolding updatedOf updatedAt waitingList
+form-tail zero h f b t = t
+form-tail (suc number) h f b t = t
+
+-- a registration takes the new pad's flags down, and those alone
+flag-place : (flags : List Bool) (pads p n : ℕ) → p < pads → pads < padLimit → (inside : Bool) → (ltb p padLimit && ltb (flagOf n) flagsPerPad) ≡ inside
+    → getD (clearedOf flags (flagsPerPad * pads) flagsPerPad) (cond inside (flagsPerPad * p + flagOf n) (flagsPerPad * padLimit)) false
+    ≡ getD flags (cond inside (flagsPerPad * p + flagOf n) (flagsPerPad * padLimit)) false
+flag-place flags pads p n old few true e =
+    let small = ltb-true (flagOf n) flagsPerPad (second (ltb p padLimit) (ltb (flagOf n) flagsPerPad) e) in
+    cleared-before flagsPerPad flags (flagsPerPad * pads) (flagsPerPad * p + flagOf n) (omega arith)
+  where
+    second : (a b : Bool) → (a && b) ≡ true → b ≡ true
+    second true b e = e
+    second false b e = false-true e
+flag-place flags pads p n old few false e = cleared-behind flagsPerPad flags (flagsPerPad * pads) (flagsPerPad * padLimit) (omega arith)
+
+flag-same : (flags : List Bool) (pads p n : ℕ) → p < pads → pads < padLimit
+    → getD (clearedOf flags (flagsPerPad * pads) flagsPerPad) (flagPlace p n) false ≡ getD flags (flagPlace p n) false
+unfolding flagPlace
+flag-same flags pads p n old few = flag-place flags pads p n old few (ltb p padLimit && ltb (flagOf n) flagsPerPad) refl
+
+grown-tail : (s : Sheet) (flags : List Bool) → s .pads < padLimit → (q : List Event) (b : ℕ) → All (Fit s) q → Tail flags q b
+    → Tail (clearedOf flags (flagsPerPad * s .pads) flagsPerPad) q b
+grown-tail s flags few q b fits (buttons all) = buttons all
+grown-tail s flags few q b fits (lone {pad} {time} {m} {c} {z}) =
+    let old = fit-pad (head-of fits) in
+    let after = clearedOf flags (flagsPerPad * s .pads) flagsPerPad in
+    let same : upAt after (flagPlace pad m) (flagPlace pad (partnerOf m)) ≡ upAt flags (flagPlace pad m) (flagPlace pad (partnerOf m)) =
+    unfold upAt in rw (flag-same flags (s .pads) pad m old few, flag-same flags (s .pads) pad (partnerOf m) old few) in
+    subst (λ (n : ℕ). Tail after (ev pad time (Axis m c z) ∷ []) (suc n)) same lone
+
+register-tail : (number : ℕ) (h : Hub) (sheet : List ℕ) (b : ℕ) → registerRefusal (h .pads) sheet ≡ number → All (Fit (sheetOf h)) (waitingList h)
+    → Tail (h .flags) (waitingList h) b → Tail (registerBy number h sheet .hub .flags) (waitingList (registerBy number h sheet .hub)) b
+unfolding registeredAt waitingList
+register-tail zero h sheet b ok fits t = grown-tail (sheetOf h) (h .flags) (accepted (h .pads) sheet ok .0) (waitingList h) b fits t
+register-tail (suc number) h sheet b ok fits t = t
+
+-- ---- since the last record
+
+-- a hub, and the events that were handed out since its last record was taken
+pub data Handed : Hub → ℕ → Type 0 where
+  taken : {h : Hub} {rs : List RawRecord} → Played h rs → (r : RawRecord) → h .waiting ≡ 0 → recordRefusal (lookAt r) (h .pads) (recordKind h r) ≡ 0
+      → Handed (stepHub h (lookAt r)) (oneIf (keptOf true (stepEvent h (lookAt r))))
+  served : {h : Hub} {n : ℕ} → Handed h n → 0 < h .waiting → Handed (stepHub h look) (n + oneIf (keptOf true (stepEvent h look)))
+  registered : {h : Hub} {n : ℕ} → Handed h n → (sheet : List ℕ) → Handed (registerOf h sheet .hub) n
+  counted : {h : Hub} {n : ℕ} → Handed h n → Handed (incOf h) n
+  reset : {h : Hub} {n : ℕ} → Handed h n → Handed (resetOf h) n
+  repeated : {h : Hub} {n : ℕ} → Handed h n → (bytes : List ℕ) → Repeats h bytes → Handed (updateOf h bytes .hub) n
+
+pub handed-led : {h : Hub} {n : ℕ} → Handed h n → Led h
+handed-led (taken {h} {rs} p r none ok) = record { records = r ∷ rs; played = take r none ok p }
+handed-led (served a some) =
+    let l = handed-led a in
+    record { records = l .records; played = serve some (l .played) }
+handed-led (registered a sheet) =
+    let l = handed-led a in
+    record { records = l .records; played = played.register sheet (l .played) }
+handed-led (counted a) =
+    let l = handed-led a in
+    record { records = l .records; played = played.inc (l .played) }
+handed-led (reset a) =
+    let l = handed-led a in
+    record { records = l .records; played = played.reset (l .played) }
+handed-led (repeated a bytes fed) =
+    let l = handed-led a in
+    record { records = l .records; played = played.repeat bytes fed (l .played) }
+
+-- what was handed out, and what can still be
+record Sums (h : Hub) (n : ℕ) : Type 0 where
+  bound : ℕ
+  tail : Tail (h .flags) (waitingList h) bound
+  small : n + bound ≤ 4
+
+one-at-most : (b : Bool) → oneIf b ≤ 1
+one-at-most true = omega arith
+one-at-most false = omega arith
+
+sums : {h : Hub} {n : ℕ} → Handed h n → Sums h n
+unfolding registerOf incOf resetOf
+sums (taken {h} p r none ok) =
+    let f = take-few p r none in
+    let few = f .few in
+    record { bound = f .bound; tail = f .tail; small = omega (arith, one-at-most (keptOf true (stepEvent h (lookAt r)))) }
+sums (served {h} {n} a some) =
+    let s = sums a in
+    let l = serve-less (handed-led a .played) some (s .bound) (s .tail) in
+    let less = l .less in
+    let small = s .small in
+    record { bound = l .bound; tail = l .tail; small = omega (arith, one-at-most (keptOf true (stepEvent h look))) }
+sums (registered {h} a sheet) =
+    let s = sums a in
+    record {
+      bound = s .bound;
+      tail = register-tail (registerRefusal (h .pads) sheet) h sheet (s .bound) refl (tidy (handed-led a .played)) (s .tail);
+      small = s .small;
+    }
+sums (counted {h} a) =
+    let s = sums a in
+    record { bound = s .bound; tail = counted-tail h (nextCounter (h .counter)) (s .bound) (s .tail); small = s .small }
+sums (reset {h} a) =
+    let s = sums a in
+    record { bound = s .bound; tail = counted-tail h 0 (s .bound) (s .tail); small = s .small }
+sums (repeated {h} a bytes fed) =
+    let s = sums a in
+    record {
+      bound = s .bound;
+      tail =
+          subst (λ (g : Hub). Tail (g .flags) (waitingList g) (s .bound)) (sym (update-is h bytes fed)) (form-tail (refusal h bytes fed) h (fed .form) (s .bound) (s .tail));
+      small = s .small;
+    }
+
+-- "at most four events"
+pub at-most-four : {h : Hub} {n : ℕ} → Handed h n → n ≤ 4
+at-most-four a =
+    let small = sums a .small in
+    omega arith
