@@ -1,5 +1,10 @@
 // A case of the stored list of decisions: 26 words of four bytes, the highest first, with events of four words in it.
+ghost use mathlib.Core.Path.{_≡_};
+ghost use mathlib.Core.Bool.{cond, not, _||_};
 ghost use Prim.Native.Nat.{_+_, _≤_, _<_};
+ghost use Rattle.rules.specs.Forms.{signedOf};
+ghost use Rattle.rules.specs.Events.{slotOf};
+ghost use Rattle.cases.specs.Case.{wordOf, floatOf, markOf, eventIn, sameOf};
 use rules::Event;
 use rules::Slot;
 
@@ -16,12 +21,14 @@ pub const QUEUED: usize = 14;
 
 pub fn word(case: &[u8; 104], n: usize) -> u32
     requires { ⌜ n < 26 ⌝ }
+    ensures { λ r. ⌜ r ≡ wordOf (now (case .entry)) n ⌝ }
 {
     wire::read4(case, n * 4)
 }
 
 pub fn long(case: &[u8; 104], n: usize) -> u64
     requires { ⌜ n < 26 ⌝ }
+    ensures { λ r. ⌜ r ≡ wordOf (now (case .entry)) n ⌝ }
 {
     let w = word(case, n);
     w as u64
@@ -29,6 +36,7 @@ pub fn long(case: &[u8; 104], n: usize) -> u64
 
 pub fn value(case: &[u8; 104], n: usize) -> f32
     requires { ⌜ n < 26 ⌝ }
+    ensures { λ r. ⌜ r ≡ floatOf (now (case .entry)) n ⌝ }
 {
     binary32::of_bits(word(case, n))
 }
@@ -36,6 +44,7 @@ pub fn value(case: &[u8; 104], n: usize) -> f32
 // a word as a signed number
 pub fn whole(case: &[u8; 104], n: usize) -> i32
     requires { ⌜ n < 26 ⌝ }
+    ensures { λ r. ⌜ r ≡ signedOf (wordOf (now (case .entry)) n) ⌝ }
 {
     wire::signed4(case, n * 4)
 }
@@ -43,11 +52,14 @@ pub fn whole(case: &[u8; 104], n: usize) -> i32
 // the mark of this weight in a byte of marks
 pub fn mark(marks: u8, weight: u8) -> bool
     requires { ⌜ 0 < weight ⌝ }
+    ensures { λ r. ⌜ r ≡ markOf marks weight ⌝ }
 {
     marks / weight % 2 == 1
 }
 
-pub fn agree(a: bool, b: bool) -> bool {
+pub fn agree(a: bool, b: bool) -> bool
+    ensures { λ r. ⌜ r ≡ cond a b (not b) ⌝ }
+{
     if a { b } else { !b }
 }
 
@@ -55,6 +67,7 @@ pub fn agree(a: bool, b: bool) -> bool {
 
 pub fn event(case: &[u8; 104], n: usize) -> Event
     requires { ⌜ n + 4 ≤ 26 ⌝ }
+    ensures { λ r. ⌜ r ≡ eventIn (now (case .entry)) n ⌝ }
 {
     let at = n * 4;
     events::event_of(Slot {
@@ -67,35 +80,27 @@ pub fn event(case: &[u8; 104], n: usize) -> Event
     })
 }
 
+// Whether an event is the one at these words, its value bit for bit.
 pub fn same(e: Event, case: &[u8; 104], n: usize) -> bool
     requires { ⌜ n + 4 ≤ 26 ⌝ }
+    ensures { λ r. ⌜ r ≡ sameOf (slotOf e) (now (case .entry)) n ⌝ }
 {
     let s = events::slot_of(e);
     let at = n * 4;
-    if s.kind != case[at] {
-        return false;
-    }
-    if s.pad != case[at + 1] {
-        return false;
-    }
-    if s.name != case[at + 2] {
-        return false;
-    }
-    if s.code != word(case, n + 1) {
-        return false;
-    }
-    if binary32::bits_of(s.value) != word(case, n + 2) {
-        return false;
-    }
-    s.time == long(case, n + 3)
+    let first = choices::both(
+        s.kind == case[at],
+        choices::both(s.pad == case[at + 1], s.name == case[at + 2]),
+    );
+    let code = s.code == word(case, n + 1);
+    let value = binary32::bits_of(s.value) == word(case, n + 2);
+    let time = s.time == long(case, n + 3);
+    choices::both(first, choices::both(code, choices::both(value, time)))
 }
 
-// an event that is queued is the one at these words
+// An event that is queued is the one at these words.
 pub fn waits(queued: bool, e: Event, case: &[u8; 104], n: usize) -> bool
     requires { ⌜ n + 4 ≤ 26 ⌝ }
+    ensures { λ r. ⌜ r ≡ (not queued || sameOf (slotOf e) (now (case .entry)) n) ⌝ }
 {
-    if queued {
-        return same(e, case, n);
-    }
-    true
+    choices::either(!queued, same(e, case, n))
 }
