@@ -37,42 +37,27 @@ takes-hat s p n e = by (getD (s .converts) p false) (isHat n) e
     by true b e = e
     by false b e = false-true e
 
--- different hats have different directions
-pub plus-name : (m n : ℕ) → isHat m ≡ true → isHat n ≡ true → positiveCode m ≡ positiveCode n → m ≡ n
-unfolding isHat positiveCode
-plus-name m n em en same = by (eqb m dpadX) (eqb m dpadY) (eqb n dpadX) (eqb n dpadY) refl refl refl refl em en same
+-- different hats have different directions: a hat's code tells which of the two it is
+same-hat : (a b : ℕ) → (a ≡ b → ⊥) → (m n : ℕ) → isHat m ≡ true → isHat n ≡ true → cond (eqb m dpadX) a b ≡ cond (eqb n dpadX) a b → m ≡ n
+unfolding isHat
+same-hat a b differ m n em en same = by (eqb m dpadX) (eqb m dpadY) (eqb n dpadX) (eqb n dpadY) refl refl refl refl em en same
   where
-    by : (a b c d : Bool) → eqb m dpadX ≡ a → eqb m dpadY ≡ b → eqb n dpadX ≡ c → eqb n dpadY ≡ d → (a || b) ≡ true → (c || d) ≡ true → positiveCode m ≡ positiveCode n → m ≡ n
-    by true b true d ea eb ec ed em en s = eqb-true m dpadX ea ∙ sym (eqb-true n dpadX ec)
-    by true b false d ea eb ec ed em en s = absurd (differ (rw (ea, ec) at s))
-      where
-        differ : codeRight ≡ codeUp → ⊥
-        differ s = omega arith
-    by false true true d ea eb ec ed em en s = absurd (differ (rw (ea, ec) at s))
-      where
-        differ : codeUp ≡ codeRight → ⊥
-        differ s = omega arith
-    by false true false true ea eb ec ed em en s = eqb-true m dpadY eb ∙ sym (eqb-true n dpadY ed)
-    by false true false false ea eb ec ed em en s = false-true en
-    by false false c d ea eb ec ed em en s = false-true em
+    by : (mx my nx ny : Bool) → eqb m dpadX ≡ mx → eqb m dpadY ≡ my → eqb n dpadX ≡ nx → eqb n dpadY ≡ ny → (mx || my) ≡ true → (nx || ny) ≡ true
+        → cond mx a b ≡ cond nx a b → m ≡ n
+    by true my true ny emx emy enx eny em en s = eqb-true m dpadX emx ∙ sym (eqb-true n dpadX enx)
+    by true my false ny emx emy enx eny em en s = absurd (differ s)
+    by false true true ny emx emy enx eny em en s = absurd (differ (sym s))
+    by false true false true emx emy enx eny em en s = eqb-true m dpadY emy ∙ sym (eqb-true n dpadY eny)
+    by false true false false emx emy enx eny em en s = false-true en
+    by false false nx ny emx emy enx eny em en s = false-true em
+
+pub plus-name : (m n : ℕ) → isHat m ≡ true → isHat n ≡ true → positiveCode m ≡ positiveCode n → m ≡ n
+unfolding positiveCode
+plus-name m n em en same = same-hat codeRight codeUp (λ e. omega arith) m n em en same
 
 pub minus-name : (m n : ℕ) → isHat m ≡ true → isHat n ≡ true → negativeCode m ≡ negativeCode n → m ≡ n
-unfolding isHat negativeCode
-minus-name m n em en same = by (eqb m dpadX) (eqb m dpadY) (eqb n dpadX) (eqb n dpadY) refl refl refl refl em en same
-  where
-    by : (a b c d : Bool) → eqb m dpadX ≡ a → eqb m dpadY ≡ b → eqb n dpadX ≡ c → eqb n dpadY ≡ d → (a || b) ≡ true → (c || d) ≡ true → negativeCode m ≡ negativeCode n → m ≡ n
-    by true b true d ea eb ec ed em en s = eqb-true m dpadX ea ∙ sym (eqb-true n dpadX ec)
-    by true b false d ea eb ec ed em en s = absurd (differ (rw (ea, ec) at s))
-      where
-        differ : codeLeft ≡ codeDown → ⊥
-        differ s = omega arith
-    by false true true d ea eb ec ed em en s = absurd (differ (rw (ea, ec) at s))
-      where
-        differ : codeDown ≡ codeLeft → ⊥
-        differ s = omega arith
-    by false true false true ea eb ec ed em en s = eqb-true m dpadY eb ∙ sym (eqb-true n dpadY ed)
-    by false true false false ea eb ec ed em en s = false-true en
-    by false false c d ea eb ec ed em en s = false-true em
+unfolding negativeCode
+minus-name m n em en same = same-hat codeLeft codeDown (λ e. omega arith) m n em en same
 
 -- and no hat's positive direction is a negative one
 pub cross : (m n : ℕ) → positiveCode m ≡ negativeCode n → ⊥
