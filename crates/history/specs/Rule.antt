@@ -1,6 +1,6 @@
 -- 01's history rule: what a code of a pad reads, told from the records that were taken, the newest first, and from the sheet. It knows no queue, no filter's
 -- state and no cached record. Definitions only. Assumes nothing.
-use Prim.Native.Nat.{ℕ}
+use Prim.Native.Nat.{ℕ, zero, suc, _+_}
 use mathlib.Core.Bool.{Bool, false, cond, not, _&&_, _||_}
 use mathlib.Core.List.{List, [], _∷_}
 use lib.Dec.{eqb}
@@ -11,8 +11,13 @@ use Rattle.numbers.specs.Deadzone.{deadzoneOf}
 use Rattle.rules.specs.declared.RawRecord.{RawRecord}
 use Rattle.rules.specs.declared.Element.{Element}
 use Rattle.rules.specs.Names.{isY, codeUp, codeDown, codeLeft, codeRight}
-use Rattle.rules.specs.Forms.{kindPressed, kindReleased, kindAxis, kindConnected}
+use Rattle.rules.specs.Forms.{recordFields, recordSize, kindPressed, kindReleased, kindAxis, kindConnected}
 use Rattle.rules.specs.Dispatch.{amount}
+
+-- "records are those taken": n records of a batch from a place on, before those that were taken earlier
+unfoldable pub recordsFrom : ℕ → List ℕ → ℕ → List RawRecord → List RawRecord
+recordsFrom zero batch place rs = rs
+recordsFrom (suc n) batch place rs = recordsFrom n batch (place + recordSize) (recordFields batch place ∷ rs)
 
 -- what is read of a code
 pub record Reading : Type 0 where

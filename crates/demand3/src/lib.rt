@@ -1,0 +1,1 @@
+// Demand 3 on one page, in specs/. No function.
