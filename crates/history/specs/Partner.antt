@@ -82,10 +82,10 @@ module _ (h : Hub) (desk : Desk h) (p : ℕ) (old : p < h .pads) (n : ℕ) (some
       let at : placesPerPad * p + (place - placesPerPad * p) ≡ place = omega arith in
       let j : place - placesPerPad * p < placesPerPad = omega arith in
       let name : rowAt (w .sheet) (place - placesPerPad * p) .name ≡ n =
-      sym (w .keeps .names (place - placesPerPad * p) j)
+      sym (w .kept .keeps .names (place - placesPerPad * p) j)
       ∙ (ap (λ (i : ℕ). getD (h .names) i noName) at ∙ (inside-any (h .names) place noName 0 (rw (desk .sized .names) found) ∙ st .has)) in
       let code : getD (h .codes) place 0 ≡ rowAt (w .sheet) (place - placesPerPad * p) .code =
-      sym (ap (λ (i : ℕ). getD (h .codes) i 0) at) ∙ w .keeps .codes (place - placesPerPad * p) j in
+      sym (ap (λ (i : ℕ). getD (h .codes) i 0) at) ∙ w .kept .keeps .codes (place - placesPerPad * p) j in
       by stands name code (row-of (w .sheet) (place - placesPerPad * p))
     where
       by : p < padLimit → rowAt (desk .sheets p old .sheet) (place - placesPerPad * p) .name ≡ n
@@ -96,7 +96,7 @@ module _ (h : Hub) (desk : Desk h) (p : ℕ) (old : p < h .pads) (n : ℕ) (some
       by stands name code (inl none) = absurd (some (sym name ∙ none))
       by stands name code (inr o) =
           let w = desk .sheets p old in
-          let l = listed h p (w .sheet) stands (w .taken) (w .keeps) (o .element) (o .inside) in
+          let l = listed h p (w .sheet) stands (w .kept .taken) (w .kept .keeps) (o .element) (o .inside) in
           let c : getD (h .codes) place 0 ≡ elementOf (w .sheet) (o .element) .code = code ∙ row-code (w .sheet) (countOf (w .sheet)) _ o in
           let m : elementOf (w .sheet) (o .element) .name ≡ n = sym (row-name (w .sheet) (countOf (w .sheet)) _ o) ∙ name in
           rw c (l .name ∙ m)
@@ -111,10 +111,10 @@ unlisted-name h desk p old c found none =
     let at : placesPerPad * p + (k - placesPerPad * p) ≡ k = omega arith in
     let j : k - placesPerPad * p < placesPerPad = omega arith in
     let name : getD (h .names) k noName ≡ rowAt (w .sheet) (k - placesPerPad * p) .name =
-    sym (ap (λ (i : ℕ). getD (h .names) i noName) at) ∙ w .keeps .names (k - placesPerPad * p) j in
+    sym (ap (λ (i : ℕ). getD (h .names) i noName) at) ∙ w .kept .keeps .names (k - placesPerPad * p) j in
     let kind : rowAt (w .sheet) (k - placesPerPad * p) .kind ≡ 0 =
-    sym (w .keeps .kinds (k - placesPerPad * p) j) ∙ (ap (λ (i : ℕ). getD (h .kinds) i 0) at ∙ none) in
-    name ∙ by (w .sheet) (w .taken) (rowAt (w .sheet) (k - placesPerPad * p)) kind (row-of (w .sheet) (k - placesPerPad * p))
+    sym (w .kept .keeps .kinds (k - placesPerPad * p) j) ∙ (ap (λ (i : ℕ). getD (h .kinds) i 0) at ∙ none) in
+    name ∙ by (w .sheet) (w .kept .taken) (rowAt (w .sheet) (k - placesPerPad * p)) kind (row-of (w .sheet) (k - placesPerPad * p))
   where
     by : (s : List ℕ) → sheetRefusal s ≡ 0 → (row : Row) → row .kind ≡ 0 → (row .name ≡ noName) ⊎ Of s (countOf s) row → row .name ≡ noName
     by s taken row kind (inl name) = name
