@@ -94,8 +94,26 @@ alike h g a d =
           record { sheet = w .sheet; kept = alike-kept h g p (w .sheet) a (w .kept) };
     }
 
-abbrev same : (h g : Hub) → g .pads ≡ h .pads → g .codes ≡ h .codes → g .kinds ≡ h .kinds → g .names ≡ h .names → g .elements ≡ h .elements → g .counts ≡ h .counts → g .hats ≡ h .hats → g .converts ≡ h .converts → Desk h → Desk g
-same h g a b c d e f i j = alike h g (record { pads = a; codes = b; kinds = c; names = d; elements = e; counts = f; hats = i; converts = j })
+abbrev alike-by : (h g : Hub) → g .pads ≡ h .pads → g .codes ≡ h .codes → g .kinds ≡ h .kinds → g .names ≡ h .names → g .elements ≡ h .elements
+    → g .counts ≡ h .counts → g .hats ≡ h .hats → g .converts ≡ h .converts → Alike h g
+alike-by h g a b c d e f i j = record { pads = a; codes = b; kinds = c; names = d; elements = e; counts = f; hats = i; converts = j }
+
+pub step-alike : (h : Hub) (l : Looked) → Alike h (stepHub h l)
+unfolding stepHub updatedOf updatedAt turnedOf pushedOf markedOf
+step-alike h l = alike-by h _ refl refl refl refl refl refl refl refl
+
+pub form-alike : (number : ℕ) (h : Hub) (f : EventForm) → Alike h (updateFormBy number h f .hub)
+unfolding updatedOf updatedAt
+form-alike zero h f = alike-by h _ refl refl refl refl refl refl refl refl
+form-alike (suc number) h f = alike-by h _ refl refl refl refl refl refl refl refl
+
+pub update-alike : (r : EventRead) (h : Hub) → Alike h (updateBy r h .hub)
+update-alike (eventRead.Form f) h = form-alike (formRefusal f (h .pads) (formPlace h f)) h f
+update-alike eventRead.Malformed h = alike-by h _ refl refl refl refl refl refl refl refl
+
+pub counted-alike : (h : Hub) (n : ℕ) → Alike h (countedAt h n)
+unfolding countedAt
+counted-alike h n = alike-by h _ refl refl refl refl refl refl refl refl
 
 -- ---- each call
 
@@ -171,25 +189,12 @@ register-desk h s d (suc number) e = d
 
 rename-desk : (number : ℕ) (h : Hub) (pad : ℕ) (list : List ℕ) → Desk h → Desk (renameBy number h pad list .hub)
 unfolding renamedAt
-rename-desk zero h pad list d = same h _ refl refl refl refl refl refl refl refl d
+rename-desk zero h pad list d = alike h _ (alike-by h _ refl refl refl refl refl refl refl refl) d
 rename-desk (suc number) h pad list d = d
-
-step-desk : (h : Hub) (l : Looked) → Desk h → Desk (stepHub h l)
-unfolding stepHub updatedOf updatedAt turnedOf pushedOf markedOf
-step-desk h l d = same h _ refl refl refl refl refl refl refl refl d
-
-update-form-desk : (number : ℕ) (h : Hub) (f : EventForm) → Desk h → Desk (updateFormBy number h f .hub)
-unfolding updatedOf updatedAt
-update-form-desk zero h f d = same h _ refl refl refl refl refl refl refl refl d
-update-form-desk (suc number) h f d = d
-
-update-desk : (r : EventRead) (h : Hub) → Desk h → Desk (updateBy r h .hub)
-update-desk (eventRead.Form f) h d = update-form-desk (formRefusal f (h .pads) (formPlace h f)) h f d
-update-desk eventRead.Malformed h d = d
 
 insert-form-desk : (number : ℕ) (h : Hub) (f : EventForm) → Desk h → Desk (insertFormBy number h f .hub)
 unfolding insertedAt
-insert-form-desk zero h f d = same h _ refl refl refl refl refl refl refl refl d
+insert-form-desk zero h f d = alike h _ (alike-by h _ refl refl refl refl refl refl refl refl) d
 insert-form-desk (suc number) h f d = d
 
 insert-desk : (r : EventRead) (h : Hub) → Desk h → Desk (insertBy r h .hub)
@@ -204,11 +209,11 @@ reached-desk (new pressed released reversed filters updates) =
     new-desk (thresholdsRefusal pressed released) _ (fresh-desk pressed released reversed filters updates)
 reached-desk (register {h} sheet w) = register-desk h sheet (reached-desk w) (registerRefusal (h .pads) sheet) refl
 reached-desk (rename {h} pad list w) = rename-desk (renameRefusal h pad list) h pad list (reached-desk w)
-reached-desk (step {h} l w) = step-desk h l (reached-desk w)
-reached-desk (update {h} event w) = update-desk (readEvent event) h (reached-desk w)
+reached-desk (step {h} l w) = alike h _ (step-alike h l) (reached-desk w)
+reached-desk (update {h} event w) = alike h _ (update-alike (readEvent event) h) (reached-desk w)
 reached-desk (insert {h} event w) = insert-desk (readEvent event) h (reached-desk w)
-reached-desk (inc {h} w) = same h _ refl refl refl refl refl refl refl refl (reached-desk w)
-reached-desk (reset {h} w) = same h _ refl refl refl refl refl refl refl refl (reached-desk w)
+reached-desk (inc {h} w) = alike h _ (counted-alike h _) (reached-desk w)
+reached-desk (reset {h} w) = alike h _ (counted-alike h 0) (reached-desk w)
 
 module _ {h : Hub} (w : Reached h) (p : ℕ) (short : p < h .pads) where
   pub four-pads : h .pads ≤ padLimit
