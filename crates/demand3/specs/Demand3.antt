@@ -18,7 +18,6 @@ use Rattle.rules.specs.declared.RegisterAnswer.the-variants as registerAnswer
 use Rattle.rules.specs.declared.RepeatAnswer.{RepeatAnswer}
 use Rattle.rules.specs.declared.RepeatAnswer.the-variants as repeatAnswer
 use Rattle.rules.specs.declared.TruthAnswer.the-variants as truthAnswer
-use Rattle.rules.specs.declared.ValueAnswer.the-variants as valueAnswer
 use Rattle.rules.specs.Names.{noName, dpadX, dpadY, dpadRight, codeUp, codeDown, codeLeft, codeRight, isButton, isAxis}
 use Rattle.rules.specs.Forms.{recordSize}
 use Rattle.rules.specs.Sheets.{hatsOf, countOf, elementOf, elementButton, elementAxis, lastHats}
@@ -28,9 +27,9 @@ use Rattle.rules.specs.Events.{eventBytes}
 use Rattle.rules.specs.Repeat.{repeatOf}
 use Rattle.rules.specs.Pump.{Progress, Verdict, going, stopping, refusing, verdictOf, stepped, startOf, pumpOf}
 use Rattle.rules.specs.Calls.{newOf, registerOf, updateOf, incOf, resetOf}
-use Rattle.rules.specs.Queries.{pressedByCode, valueByCode}
+use Rattle.rules.specs.Queries.{pressedByCode}
 use Rattle.promises.specs.Machines.{placeSaid}
-use Rattle.history.specs.Rule.{recordsFrom, Reading, nothing, held, isDirection, buttonReads, triggerReads, hatValue}
+use Rattle.history.specs.Rule.{recordsFrom, Reading, Reads, nothing, held, isDirection, buttonReads, triggerReads, hatValue}
 
 -- ---- what is called
 
@@ -195,11 +194,12 @@ abbrev pub lookupElement : Lookup → Element
 lookupElement (listed e) = listedRow e .element
 lookupElement unlisted = noElement
 
--- "hats is 15, or hats is 0 and no direction code is named and no element is named DPadRight"
+-- "no direction code is named and no element is named DPadRight"
 unfoldable pub speaksOfHats : List SheetElement → Bool
 speaksOfHats [] = false
-speaksOfHats (e ∷ es) = (isDirection (e .code) && not (eqb (e .name) noName)) || (eqb (e .name) dpadRight || speaksOfHats es)
+speaksOfHats (e ∷ es) = ((isDirection (e .code) && not (eqb (e .name) noName)) || eqb (e .name) dpadRight) || speaksOfHats es
 
+-- "A pad converts if hats is 15, or hats is 0 and .."
 unfoldable pub converts : Sheet → Bool
 unfolding speaksOfHats
 converts s = eqb (s .hats) lastHats || (eqb (s .hats) 0 && not (speaksOfHats (s .elements)))
@@ -243,11 +243,6 @@ ruleReads t s p c rs = readsBy (converts s && isDirection c) (lookup c (s .eleme
 
 -- ---- demand 3
 
--- what the queries of a pad's code answer
-pub record Answers (h : Hub) (p c : ℕ) (x : Reading) : Type 0 where
-  pub pressed : pressedByCode h p c ≡ truthAnswer.Is (x .pressed)
-  pub value : valueByCode h p c ≡ valueAnswer.Value (x .value)
-
 -- two directions of one hat
 pub data Opposite : ℕ → ℕ → Type 0 where
   left-right : Opposite codeLeft codeRight
@@ -266,7 +261,7 @@ pub data AllBefore : List Turn → Type 0 where
 -- of the pads that the script registered; `waiting` is what the call of that name answers
 pub record Demand3 (s : Script) : Type 0 where
   pub reads : (p c : ℕ) (x : Reading) → p < length (sheetsOf s) → play s .waiting ≡ 0
-      → ruleReads (settingsOf s) (getD (sheetsOf s) p noSheet) p c (recordsOf s) ≡ says x → Answers (play s) p c x
+      → ruleReads (settingsOf s) (getD (sheetsOf s) p noSheet) p c (recordsOf s) ≡ says x → Reads (play s) p c x
   pub opposites : (p c d : ℕ) → p < length (sheetsOf s) → converts (getD (sheetsOf s) p noSheet) ≡ true → Opposite c d
       → lookup c (getD (sheetsOf s) p noSheet .elements) ≡ unlisted → lookup d (getD (sheetsOf s) p noSheet .elements) ≡ unlisted
       → pressedByCode (play s) p c ≡ truthAnswer.Is true → pressedByCode (play s) p d ≡ truthAnswer.Is false

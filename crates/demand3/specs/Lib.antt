@@ -1,2 +1,4 @@
 pub mod Demand3
 pub mod Scripts
+pub mod Listed
+pub mod Converting

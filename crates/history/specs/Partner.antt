@@ -18,17 +18,12 @@ use Rattle.rules.specs.Places.{placeOf, namedOf, unlistedRow}
 use Rattle.rules.specs.Calls.{rowName}
 use Rattle.pad.specs.Lookup.{named-stands, place-stands}
 use Rattle.sheets.specs.Laws.{element-fits, sort}
-use Rattle.registered.specs.Columns.{rowAt}
+use Rattle.registered.specs.Columns.{rowAt, inside-any}
 use Rattle.registered.specs.Found.{listed}
 use Rattle.registered.specs.Listing.{Of, row-of, row-code, row-kind, row-name}
 use Rattle.registered.specs.Pads.{Desk}
 use Rattle.history.specs.Waits.{sheetOf, axialAt}
 use Rattle.history.specs.Truth.{true-false}
-
-inside-any : {A : Type 0} (l : List A) (j : ℕ) (d e : A) → j < length l → getD l j d ≡ getD l j e
-inside-any [] j d e short = absurd (omega arith)
-inside-any (x ∷ xs) zero d e short = refl
-inside-any (x ∷ xs) (suc j) d e short = inside-any xs j d e (omega arith)
 
 module _ (h : Hub) (desk : Desk h) (p : ℕ) (old : p < h .pads) (n : ℕ) (some : n ≡ noName → ⊥) where
   abbrev place : ℕ

@@ -64,14 +64,15 @@ module _ (s : List ℕ) (n : ℕ) (row : Row) (o : Of s n row) where
   unfolding listedRow
   row-name = ap rowName (o .is)
 
--- a code that is not listed
-module _ (h : Hub) (p : ℕ) (s : List ℕ) (keeps : Keeps h p s) (c : ℕ) (none : (e : ℕ) → e < countOf s → codeAt s e ≡ c → ⊥) where
-  pub record Bare : Type 0 where
-    pub kind : kindAt h (placeIn h p c) ≡ 0
-    pub name : getD (h .names) (placeIn h p c) noName ≡ noName
-    pub element : elementAt h (placeIn h p c) ≡ noElement
+-- a place with nothing of an element
+pub record Bare (h : Hub) (k : ℕ) : Type 0 where
+  pub kind : kindAt h k ≡ 0
+  pub name : getD (h .names) k noName ≡ noName
+  pub element : elementAt h k ≡ noElement
 
-  pub bare : placeIn h p c < nowhere → Bare
+-- a code that is not listed has such a place
+module _ (h : Hub) (p : ℕ) (s : List ℕ) (keeps : Keeps h p s) (c : ℕ) (none : (e : ℕ) → e < countOf s → codeAt s e ≡ c → ⊥) where
+  pub bare : placeIn h p c < nowhere → Bare h (placeIn h p c)
   bare found = by (row-of s (placeIn h p c - placesPerPad * p))
     where
       at : placesPerPad * p + (placeIn h p c - placesPerPad * p) ≡ placeIn h p c
@@ -92,7 +93,7 @@ module _ (h : Hub) (p : ℕ) (s : List ℕ) (keeps : Keeps h p s) (c : ℕ) (non
           sym (keeps .codes (placeIn h p c - placesPerPad * p) inside)
           ∙ (ap (λ (k : ℕ). getD (h .codes) k 0) at ∙ place-stands (h .codes) p c found .has)
 
-      by : (row ≡ unlistedRow (row .code)) ⊎ Of s (countOf s) row → Bare
+      by : (row ≡ unlistedRow (row .code)) ⊎ Of s (countOf s) row → Bare h (placeIn h p c)
       by (inl is) =
           record {
             kind = ap (λ (k : ℕ). kindAt h k) (sym at) ∙ (keeps .kinds (placeIn h p c - placesPerPad * p) inside ∙ ap rowKind is);
