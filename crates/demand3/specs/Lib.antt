@@ -2,3 +2,4 @@ pub mod Demand3
 pub mod Scripts
 pub mod Listed
 pub mod Converting
+pub mod Reading

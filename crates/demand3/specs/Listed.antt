@@ -46,7 +46,7 @@ lookup-among (suc n) s i c e found = by (eqb (elementOf s i .code) c) refl (λ x
         let to = r .to in
         record { number = r .number; from = omega arith; to = omega arith; is = r .is; code = r .code }
 
-lookup-none : (n : ℕ) (s : List ℕ) (i c : ℕ) → lookup c (elementsFrom n s i) ≡ unlisted → (j : ℕ) → i ≤ j → j < i + n → elementOf s j .code ≡ c → ⊥
+pub lookup-none : (n : ℕ) (s : List ℕ) (i c : ℕ) → lookup c (elementsFrom n s i) ≡ unlisted → (j : ℕ) → i ≤ j → j < i + n → elementOf s j .code ≡ c → ⊥
 unfolding lookup elementsFrom
 lookup-none zero s i c none j from to same = absurd (omega arith)
 lookup-none (suc n) s i c none j from to same = by (eqb (elementOf s i .code) c) (eqb i j) refl refl (λ x past. lookup-none n s (i + 1) c x j past (omega arith) same)

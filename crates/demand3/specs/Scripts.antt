@@ -11,22 +11,27 @@ use native.Mathlib.Omega.{arith}
 use borrow.Author.Tests.{ltb-true, ltb-false}
 use Rattle.rules.specs.declared.Hub.{Hub}
 use Rattle.rules.specs.declared.RawRecord.{RawRecord}
+use Rattle.rules.specs.declared.EventRead.{EventRead}
+use Rattle.rules.specs.declared.EventRead.the-variants as eventRead
 use Rattle.rules.specs.declared.RepeatAnswer.{RepeatAnswer}
 use Rattle.rules.specs.declared.RepeatAnswer.the-variants as repeatAnswer
 use Rattle.rules.specs.Names.{padLimit}
 use Rattle.rules.specs.Forms.{readEvent, recordSize}
 use Rattle.rules.specs.Events.{eventBytes}
 use Rattle.rules.specs.Repeat.{repeatOf}
-use Rattle.rules.specs.Refusals.{thresholdsRefusal}
+use Rattle.rules.specs.Refusals.{thresholdsRefusal, formRefusal}
 use Rattle.rules.specs.Pump.{pumpOf}
-use Rattle.rules.specs.Calls.{freshHub, idleHub, newBy, newOf, registeredAt, registerRefusal, registerBy, registerOf, updateOf, incOf, resetOf}
+use Rattle.rules.specs.Calls.{freshHub, idleHub, newBy, newOf, registeredAt, registerRefusal, registerBy, registerOf, formPlace, updateBy, updateOf, incOf, resetOf}
 use Rattle.promises.specs.Reach.{pump-keeps}
+use Rattle.promises.specs.Machines.{said}
 use Rattle.registered.specs.Pads.{Desk, Kept, Alike, alike-kept, next-kept, old-kept, step-alike, update-alike, counted-alike, reached-desk}
 use Rattle.history.specs.Rule.{recordsFrom}
 use Rattle.history.specs.Played as played
 use Rattle.history.specs.Played.{Played, reached}
 use Rattle.history.specs.Pumps.{Took, pump-took}
-use Rattle.demand3.specs.Demand3.{Settings, Call, register, pump, inc, reset, repeat, Script, new, _then_, Allowed, fedBack, called, play, settingsOf, takenBy, recordsOf, Sheet, sheetRead, acceptedBy, addedBy, sheetsOf, noSheet}
+use Rattle.history.specs.Sorts.{Same, step-same, counted-same}
+use Rattle.history.specs.Codes.{form-same}
+use Rattle.demand3.specs.Demand3.{Settings, register, pump, inc, reset, repeat, Script, new, _then_, Allowed, fedBack, play, settingsOf, takenBy, recordsOf, Sheet, sheetRead, acceptedBy, sheetsOf, noSheet}
 
 -- ---- records
 
@@ -35,22 +40,22 @@ counted : (place count to : ℕ) → to ≡ place + recordSize * count → (to -
 counted place count to e = omega arith
 
 pump-played : (h : Hub) (rs : List RawRecord) (batch : List ℕ) (place : ℕ) (out : List ℕ) (allowance : ℕ) → Played h rs
-    → Played (pumpOf h batch place out allowance .pumped .hub) (takenBy (pump batch place out allowance) h rs)
+    → Played (pumpOf h batch place out allowance .pumped .hub) (takenBy (said pumpOf h batch place out allowance) batch place rs)
 pump-played h rs batch place out allowance w =
     let t = pump-took h batch place out allowance rs w in
     subst (λ (n : ℕ). Played (pumpOf h batch place out allowance .pumped .hub) (recordsFrom n batch place rs)) (sym (counted place (t .count) _ (t .place))) (t .played)
 
-pub script-played : (s : Script) → Allowed s → Played (play s) (recordsOf s)
+pub script-played : (s : Script) → Allowed s → Played (play pumpOf s) (recordsOf pumpOf s)
 unfolding play recordsOf
 script-played (new t) ok = played.fresh (t .pressed) (t .released) (t .reversed) ok
 script-played (s then register sheet) ok = played.register sheet (script-played s (ok .0))
-script-played (s then pump batch place out allowance) ok = pump-played (play s) (recordsOf s) batch place out allowance (script-played s (ok .0))
+script-played (s then pump batch place out allowance) ok = pump-played (play pumpOf s) (recordsOf pumpOf s) batch place out allowance (script-played s (ok .0))
 script-played (s then inc) ok = played.inc (script-played s (ok .0))
 script-played (s then reset) ok = played.reset (script-played s (ok .0))
 script-played (s then repeat after every clock true) ok = ?
 script-played (s then repeat after every clock false) ok = script-played s (ok .0)
 
-pub script-desk : (s : Script) → Allowed s → Desk (play s)
+pub script-desk : (s : Script) → Allowed s → Desk (play pumpOf s)
 script-desk s ok = reached-desk (reached (script-played s ok))
 
 -- ---- sheets
@@ -121,15 +126,56 @@ fed-sheets (repeatAnswer.Due e) h sheets w = alike-sheets h _ sheets (update-ali
 fed-sheets repeatAnswer.Quiet h sheets w = w
 fed-sheets (repeatAnswer.Refused number) h sheets w = w
 
-pub script-sheets : (s : Script) → Allowed s → Sheets (play s) (sheetsOf s)
-unfolding play sheetsOf newOf registerOf incOf resetOf
+pub script-sheets : (s : Script) → Allowed s → Sheets (play pumpOf s) (sheetsOf pumpOf s)
+unfolding play pumpOf sheetsOf newOf registerOf incOf resetOf
 script-sheets (new t) ok = new-sheets (thresholdsRefusal (t .pressed) (t .released)) t
 script-sheets (s then register sheet) ok =
-    register-sheets (registerRefusal (play s .pads) sheet) (play s) sheet (sheetsOf s) (script-desk s (ok .0)) refl (script-sheets s (ok .0))
+    register-sheets (registerRefusal (play pumpOf s .pads) sheet) (play pumpOf s) sheet (sheetsOf pumpOf s) (script-desk s (ok .0)) refl (script-sheets s (ok .0))
 script-sheets (s then pump batch place out allowance) ok =
-    pump-keeps (λ (h : Hub). Sheets h (sheetsOf s)) (λ h l w. alike-sheets h _ (sheetsOf s) (step-alike h l) w) (play s) batch place out allowance (script-sheets s (ok .0))
-script-sheets (s then inc) ok = alike-sheets (play s) _ (sheetsOf s) (counted-alike (play s) _) (script-sheets s (ok .0))
-script-sheets (s then reset) ok = alike-sheets (play s) _ (sheetsOf s) (counted-alike (play s) 0) (script-sheets s (ok .0))
+    pump-keeps (λ (h : Hub). Sheets h (sheetsOf pumpOf s)) (λ h l w. alike-sheets h _ (sheetsOf pumpOf s) (step-alike h l) w) (play pumpOf s) batch place out allowance (script-sheets s (ok .0))
+script-sheets (s then inc) ok = alike-sheets (play pumpOf s) _ (sheetsOf pumpOf s) (counted-alike (play pumpOf s) _) (script-sheets s (ok .0))
+script-sheets (s then reset) ok = alike-sheets (play pumpOf s) _ (sheetsOf pumpOf s) (counted-alike (play pumpOf s) 0) (script-sheets s (ok .0))
 script-sheets (s then repeat after every clock true) ok =
-    fed-sheets (repeatOf (play s) after every clock) (play s) (sheetsOf s) (script-sheets s (ok .0))
+    fed-sheets (repeatOf (play pumpOf s) after every clock) (play pumpOf s) (sheetsOf pumpOf s) (script-sheets s (ok .0))
 script-sheets (s then repeat after every clock false) ok = script-sheets s (ok .0)
+
+-- ---- settings
+
+pub record Set (t : Settings) (h : Hub) : Type 0 where
+  pub pressed : h .pressed ≡ t .pressed
+  pub released : h .released ≡ t .released
+  pub reversed : h .reversed ≡ t .reversed
+
+same-set : (t : Settings) (h g : Hub) → Same h g → Set t h → Set t g
+same-set t h g a w = record { pressed = a .pressed ∙ w .pressed; released = a .released ∙ w .released; reversed = a .reversed ∙ w .reversed }
+
+new-set : (number : ℕ) (t : Settings) → number ≡ 0 → Set t (newBy number (freshHub (t .pressed) (t .released) (t .reversed) true true) .hub)
+unfolding freshHub
+new-set zero t ok = record { pressed = refl; released = refl; reversed = refl }
+new-set (suc number) t ok = absurd (omega arith)
+
+register-set : (number : ℕ) (t : Settings) (h : Hub) (sheet : List ℕ) → Set t h → Set t (registerBy number h sheet .hub)
+unfolding registeredAt
+register-set zero t h sheet w = record { pressed = w .pressed; released = w .released; reversed = w .reversed }
+register-set (suc number) t h sheet w = w
+
+read-set : (r : EventRead) (t : Settings) (h : Hub) → Set t h → Set t (updateBy r h .hub)
+read-set (eventRead.Form f) t h w = same-set t h _ (form-same (formRefusal f (h .pads) (formPlace h f)) h f) w
+read-set eventRead.Malformed t h w = w
+
+fed-set : (a : RepeatAnswer) (t : Settings) (h : Hub) → Set t h → Set t (fedBack a h)
+unfolding updateOf
+fed-set (repeatAnswer.Due e) t h w = read-set (readEvent (eventBytes e)) t h w
+fed-set repeatAnswer.Quiet t h w = w
+fed-set (repeatAnswer.Refused number) t h w = w
+
+pub script-set : (s : Script) → Allowed s → Set (settingsOf s) (play pumpOf s)
+unfolding play pumpOf settingsOf newOf registerOf incOf resetOf
+script-set (new t) ok = new-set (thresholdsRefusal (t .pressed) (t .released)) t ok
+script-set (s then register sheet) ok = register-set (registerRefusal (play pumpOf s .pads) sheet) (settingsOf s) (play pumpOf s) sheet (script-set s (ok .0))
+script-set (s then pump batch place out allowance) ok =
+    pump-keeps (Set (settingsOf s)) (λ h l w. same-set (settingsOf s) h _ (step-same h l) w) (play pumpOf s) batch place out allowance (script-set s (ok .0))
+script-set (s then inc) ok = same-set (settingsOf s) (play pumpOf s) _ (counted-same (play pumpOf s) _) (script-set s (ok .0))
+script-set (s then reset) ok = same-set (settingsOf s) (play pumpOf s) _ (counted-same (play pumpOf s) 0) (script-set s (ok .0))
+script-set (s then repeat after every clock true) ok = fed-set (repeatOf (play pumpOf s) after every clock) (settingsOf s) (play pumpOf s) (script-set s (ok .0))
+script-set (s then repeat after every clock false) ok = script-set s (ok .0)
