@@ -3,3 +3,6 @@ pub mod Scripts
 pub mod Listed
 pub mod Converting
 pub mod Reading
+pub mod Before
+pub mod Example
+pub mod Wrong

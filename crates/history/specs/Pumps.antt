@@ -87,7 +87,7 @@ records-more (suc n) m s at rs =
     ap (λ (k : ℕ). recordsFrom m s k (recordsFrom n s (at + recordSize) (recordFields s at ∷ rs))) a
     ∙ (records-more n m s (at + recordSize) (recordFields s at ∷ rs) ∙ ap (λ (j : ℕ). recordsFrom j s at rs) b)
 
-ended-place : (v : Verdict) (p : Progress) → placeSaid (endedBy v p .pumped .answer) ≡ p .at
+pub ended-place : (v : Verdict) (p : Progress) → placeSaid (endedBy v p .pumped .answer) ≡ p .at
 ended-place going p = refl
 ended-place (stopping why) p = by (eqb why drained) (eqb why full) refl refl
   where
