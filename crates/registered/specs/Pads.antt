@@ -130,7 +130,6 @@ module _ (h : Hub) (s : List ℕ) (d : Desk h) where
       let few = accepted (h .pads) s taken .0 in
       let w = d .sheets p old in
       let other : p ≡ h .pads → ⊥ = λ e. omega arith in
-      let keeps = register-others h s (d .sized) few p (w .sheet) old (w .keeps) in
       let codes : SamePlaces (h .codes) (registeredAt h (h .pads) (hatsOf s) (countOf s) (rowsOf s (countOf s)) .codes) p =
       record { at = λ j past from to. sym (laid-places (h .codes) (map rowCode (rowsOf s (countOf s))) p (h .pads) j past old to) } in
       let names : SamePlaces (h .names) (registeredAt h (h .pads) (hatsOf s) (countOf s) (rowsOf s (countOf s)) .names) p =
@@ -138,13 +137,11 @@ module _ (h : Hub) (s : List ℕ) (d : Desk h) where
       record {
         sheet = w .sheet;
         taken = w .taken;
-        keeps = keeps;
+        keeps = register-others h s (d .sized) few p (w .sheet) old (w .keeps);
         converts =
             getD-set-other (h .converts) (h .pads) p _ false other
             ∙ (w .converts
-            ∙ converts-same (h .codes) _ (h .names) _ p (omega arith) (keeps-rise h p (w .sheet) (w .taken) (w .keeps))
-            (keeps-rise (registerBy 0 h s .hub) p (w .sheet) (w .taken) keeps) codes names (d .sized .names) (register-sized h s (d .sized) .names)
-            (hatsOf (w .sheet)));
+            ∙ converts-same (h .codes) _ (h .names) _ p codes names (d .sized .names) (register-sized h s (d .sized) .names) (hatsOf (w .sheet)));
       }
 
   sheet-by : registerRefusal (h .pads) s ≡ 0 → (p : ℕ) (older : Bool) → ltb p (h .pads) ≡ older → p < h .pads + 1 → Sheet (registerBy 0 h s .hub) p
