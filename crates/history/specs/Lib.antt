@@ -39,3 +39,6 @@ pub mod HatValues
 pub mod HatGrown
 pub mod Dpad
 pub mod Directions
+pub mod Touched
+pub mod Small
+pub mod Repeated

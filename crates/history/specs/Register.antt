@@ -1,12 +1,12 @@
--- A registration leaves the pads before it as they were: their codes are found where they were, with the same element, and their state and their events stay.
--- Assumes nothing.
+-- A registration leaves the other pads' codes alone, and the pads before it as they were: their codes are found where they were, with the same element, and
+-- their state and their events stay. Assumes nothing.
 use Prim.Native.Nat.{ℕ, _+_, _*_, _/_, _<_, _≤_}
 use mathlib.Core.Bool.{Bool, true, false, _&&_}
 use mathlib.Core.List.{List, map}
 use mathlib.Core.Path.{_≡_, refl, sym, _∙_, ap}
 use lib.Dec.{eqb, ltb}
 use lib.Ieee.{Float}
-use lib.ListN.{getD, List·getD-eq-default}
+use lib.ListN.{length, getD, length-map, List·getD-eq-default}
 use lib.Seq.{getD-set-other}
 use native.Mathlib.Omega.{arith}
 use borrow.Author.Tests.{ltb-true, ltb-false}
@@ -17,10 +17,11 @@ use Rattle.rules.specs.Sheets.{countOf}
 use Rattle.rules.specs.Places.{placeOf, rowsOf}
 use Rattle.rules.specs.Events.{codeOf}
 use Rattle.rules.specs.Hub.{touchedAt, movedAt, pastElement}
-use Rattle.rules.specs.Calls.{rowCode, rowKind, rowName, rowElement, registerRefusal, registeredAt, registerBy}
+use Rattle.rules.specs.Calls.{laid, rowCode, rowKind, rowName, rowElement, registerRefusal, registeredAt, registerBy}
 use Rattle.promises.specs.Waiting.{waitingList}
 use Rattle.pad.specs.Lookup.{place-stands}
-use Rattle.registered.specs.Columns.{laid-places, accepted, register-others, register-sized, keeps-rise}
+use Rattle.registered.specs.Laid.{laid-behind}
+use Rattle.registered.specs.Columns.{places-length, laid-places, accepted}
 use Rattle.registered.specs.Converts.{SamePlaces, place-same}
 use Rattle.registered.specs.Pads.{Desk}
 use Rattle.history.specs.Cells.{cellAt, Long, hits}
@@ -43,23 +44,27 @@ module _ (h : Hub) (s : List ℕ) (desk : Desk h) (ok : registerRefusal (h .pads
   few : h .pads < padLimit
   few = accepted (h .pads) s ok .0
 
+  -- another pad's codes, registered or not
+  pub same-codes : (q : ℕ) → (q ≡ h .pads → ⊥) → SamePlaces (next .codes) (h .codes) q
+  unfolding registeredAt
+  same-codes q other = record { at = λ j past from to. by (ltb q (h .pads)) refl j past from to }
+    where
+      codes : List ℕ
+      codes = map rowCode (rowsOf s (countOf s))
+
+      size : length codes ≡ placesPerPad
+      size = length-map (rowsOf s (countOf s)) rowCode ∙ places-length s
+
+      by : (older : Bool) → ltb q (h .pads) ≡ older → (j past : ℕ) → placesPerPad * q ≤ j → j < placesPerPad * q + placesPerPad
+          → getD (laid (h .codes) (placesPerPad * h .pads) codes) j past ≡ getD (h .codes) j past
+      by true e j past from to = laid-places (h .codes) codes q (h .pads) j past (ltb-true q (h .pads) e) to
+      by false e j past from to =
+          let behind = ltb-false q (h .pads) e in
+          laid-behind past codes (h .codes) (placesPerPad * h .pads) j (omega (arith, size))
+
   module _ (q : ℕ) (old : q < h .pads) where
-    same-codes : SamePlaces (h .codes) (next .codes) q
-    unfolding registeredAt
-    same-codes = record { at = λ j past from to. sym (laid-places (h .codes) (map rowCode (rowsOf s (countOf s))) q (h .pads) j past old to) }
-
-    same-names : SamePlaces (h .names) (next .names) q
-    unfolding registeredAt
-    same-names = record { at = λ j past from to. sym (laid-places (h .names) (map rowName (rowsOf s (countOf s))) q (h .pads) j past old to) }
-
     pub old-place : (c : ℕ) → placeOf (next .codes) q c ≡ placeOf (h .codes) q c
-    old-place c =
-        let w = desk .sheets q old in
-        let f = few in
-        let keeps = register-others h s (desk .sized) f q (w .sheet) old (w .kept .keeps) in
-        sym
-        (place-same (h .codes) (next .codes) (h .names) (next .names) q (omega arith) (keeps-rise h q (w .sheet) (w .kept .taken) (w .kept .keeps))
-        (keeps-rise next q (w .sheet) (w .kept .taken) keeps) same-codes same-names (desk .sized .names) (register-sized h s (desk .sized) .names) c)
+    old-place c = place-same (next .codes) (h .codes) q c (same-codes q (λ e. omega arith))
 
     pub old-converts : getD (next .converts) q false ≡ getD (h .converts) q false
     unfolding registeredAt

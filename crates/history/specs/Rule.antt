@@ -1,11 +1,12 @@
 -- 01's history rule: what a code of a pad reads, told from the records that were taken, the newest first, and from the sheet. It knows no queue, no filter's
 -- state and no cached record. Definitions only. Assumes nothing.
-use Prim.Native.Nat.{ℕ, zero, suc, _+_}
+use Prim.Native.Nat.{ℕ, zero, suc, _+_, _<_}
 use mathlib.Core.Bool.{Bool, false, cond, not, _&&_, _||_}
 use mathlib.Core.List.{List, [], _∷_}
 use mathlib.Core.Path.{_≡_}
 use lib.Dec.{eqb}
 use lib.Ieee.{Float, le}
+use lib.ListN.{getD}
 use Rattle.numbers.specs.Constants.{zero32}
 use Rattle.numbers.specs.Scale.{axisScaledOf, buttonScaledOf}
 use Rattle.numbers.specs.Deadzone.{deadzoneOf}
@@ -18,6 +19,13 @@ use Rattle.rules.specs.Names.{isY, codeUp, codeDown, codeLeft, codeRight}
 use Rattle.rules.specs.Forms.{recordFields, recordSize, kindPressed, kindReleased, kindAxis, kindConnected}
 use Rattle.rules.specs.Dispatch.{amount}
 use Rattle.rules.specs.Queries.{pressedByCode, valueByCode}
+
+-- what is lent as bytes
+abbrev pub byteLimit : ℕ
+byteLimit = 256
+
+abbrev pub Bytes : List ℕ → Type 0
+Bytes s = (i : ℕ) → getD s i 0 < byteLimit
 
 -- "records are those taken": n records of a batch from a place on, before those that were taken earlier
 unfoldable pub recordsFrom : ℕ → List ℕ → ℕ → List RawRecord → List RawRecord
