@@ -28,14 +28,16 @@ pub mod Sorts
 pub mod Tidy
 pub mod Fed
 pub mod Grown
+pub mod Kept
 pub mod Codes
 pub mod Demand
 pub mod Written
 pub mod Sides
 pub mod Hat
 pub mod HatNames
+pub mod Presses
 pub mod Hats
-pub mod HatValues
 pub mod HatGrown
 pub mod Dpad
+pub mod Opposites
 pub mod Directions
