@@ -9,7 +9,7 @@ use lib.Ieee.{Float}
 use lib.ListN.{length, getD, length-map, List·getD-eq-default}
 use lib.Seq.{getD-set-other}
 use native.Mathlib.Omega.{arith}
-use borrow.Author.Tests.{ltb-true, ltb-false}
+use borrow.Author.Tests.{ltb-true, ltb-false, ne-eqb}
 use Rattle.rules.specs.declared.Hub.{Hub}
 use Rattle.rules.specs.declared.Event.{Event}
 use Rattle.rules.specs.Names.{padLimit, placesPerPad, nowhere, noName, isHat}
@@ -19,7 +19,7 @@ use Rattle.rules.specs.Events.{codeOf}
 use Rattle.rules.specs.Hub.{touchedAt, movedAt, pastElement}
 use Rattle.rules.specs.Calls.{laid, rowCode, rowKind, rowName, rowElement, registerRefusal, registeredAt, registerBy}
 use Rattle.promises.specs.Waiting.{waitingList}
-use Rattle.pad.specs.Lookup.{place-stands}
+use Rattle.pad.specs.Lookup.{place-stands, places-differ}
 use Rattle.registered.specs.Laid.{laid-behind}
 use Rattle.registered.specs.Columns.{places-length, laid-places, accepted}
 use Rattle.registered.specs.Converts.{SamePlaces, place-same}
@@ -29,13 +29,24 @@ use Rattle.history.specs.Marks.{cleared-before, cleared-inside}
 use Rattle.history.specs.Waits.{sheetOf, axialAt, takes, zonedAt, Fit, press, release, change, stick}
 use Rattle.history.specs.Truth.{true-false}
 
--- past the last place stands no axis
+-- past the last place stands no element
 pub past-axial : (h : Hub) → Desk h → (k : ℕ) → nowhere ≤ k → axialAt (sheetOf h) k ≡ false
 unfolding axialAt
 past-axial h desk k past =
     let names = desk .sized .names in
     let kinds = desk .sized .kinds in
     rw (List·getD-eq-default (h .names) noName {n = k} (omega arith), List·getD-eq-default (h .kinds) 0 {n = k} (omega arith))
+
+-- so a listed element's place is found
+pub listed-found : (h : Hub) → Desk h → (k : ℕ) → (getD (h .kinds) k 0 ≡ 0 → ⊥) → k < nowhere
+listed-found h desk k listed = by (ltb k nowhere) refl
+  where
+    by : (found : Bool) → ltb k nowhere ≡ found → k < nowhere
+    by true l = ltb-true k nowhere l
+    by false l =
+        let past = ltb-false k nowhere l in
+        let long = desk .sized .kinds in
+        absurd (listed (List·getD-eq-default (h .kinds) 0 {n = k} (omega arith)))
 
 module _ (h : Hub) (s : List ℕ) (desk : Desk h) (ok : registerRefusal (h .pads) s ≡ 0) where
   abbrev pub next : Hub
@@ -158,3 +169,13 @@ module _ (h : Hub) (s : List ℕ) (desk : Desk h) (ok : registerRefusal (h .pads
   pub same-hits : (k : ℕ) (e : Event) → e .pad < h .pads → hits (next .codes) k e ≡ hits (h .codes) k e
   unfolding hits
   same-hits k e old = ap (λ (j : ℕ). eqb j k) (old-place (e .pad) old (codeOf e))
+
+  -- none of them is of a pad that is new
+  pub new-apart : (q c : ℕ) → h .pads ≤ q → placeOf (next .codes) q c < nowhere → (e : Event) → e .pad < h .pads
+      → hits (next .codes) (placeOf (next .codes) q c) e ≡ false
+  unfolding hits
+  new-apart q c new found e old =
+      ne-eqb (placeOf (next .codes) (e .pad) (codeOf e)) (placeOf (next .codes) q c)
+      (λ same.
+      let pad = places-differ (next .codes) q c (e .pad) (codeOf e) found (sym same) .0 in
+      omega arith)
