@@ -218,8 +218,8 @@ ruleReads t s p c rs = readsBy (converts s && isDirection c) (lookup c (s .eleme
 
 -- two directions of one hat
 pub data Opposite : ℕ → ℕ → Type 0 where
-  left-right : Opposite codeLeft codeRight
-  down-up : Opposite codeDown codeUp
+  right-left : Opposite codeRight codeLeft
+  up-down : Opposite codeUp codeDown
 
 -- what every script shows of a pump; `waiting` is what the call of that name answers
 pub record Demand3 (m : Machine) : Type 0 where

@@ -6,3 +6,4 @@ pub mod Reading
 pub mod Before
 pub mod Example
 pub mod Wrong
+pub mod Theorem

@@ -32,7 +32,7 @@ use Rattle.history.specs.Pumps.{Took, pump-took}
 use Rattle.history.specs.Small.{Small, new-small, register-small, pump-small, update-small, counted-small}
 use Rattle.history.specs.Repeated.{repeats}
 use Rattle.history.specs.Sorts.{Same, step-same, counted-same}
-use Rattle.history.specs.Codes.{form-same}
+use Rattle.history.specs.Kept.{form-same}
 use Rattle.demand3.specs.Demand3.{Settings, register, pump, inc, reset, repeat, Script, new, _then_, Allowed, fedBack, play, settingsOf, takenBy, recordsOf, Sheet, sheetRead, acceptedBy, sheetsOf, noSheet}
 
 -- ---- records

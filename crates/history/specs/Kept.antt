@@ -37,7 +37,7 @@ unfolding freshHub
 fresh-empty zero pressed released reversed p e old = omega arith
 fresh-empty (suc number) pressed released reversed p e old = omega arith
 
-form-same : (number : ℕ) (h : Hub) (f : EventForm) → Same h (updateFormBy number h f .hub)
+pub form-same : (number : ℕ) (h : Hub) (f : EventForm) → Same h (updateFormBy number h f .hub)
 form-same zero h f = update-same h (formEvent f)
 form-same (suc number) h f =
     record { pads = refl; codes = refl; kinds = refl; names = refl; elements = refl; converts = refl; pressed = refl; released = refl; reversed = refl }
