@@ -1,7 +1,7 @@
 -- Demand 3 holds of the pump. The hub after a script is played by the records that the script took (Scripts), so history's theorems say what its codes read;
 -- what they ask of the hub's columns is read off the sheet's bytes (Listed, Converting, Reading).
 use Prim.Native.Nat.{ℕ, _<_, _≤_}
-use mathlib.Core.Bool.{true}
+use mathlib.Core.Bool.{true, false}
 use mathlib.Core.Path.{_≡_, sym, subst}
 use lib.ListN.{length, getD}
 use Rattle.rules.specs.declared.TruthAnswer.the-variants as truthAnswer
