@@ -66,7 +66,7 @@ press-move kind s other = by (eqb kind kindPressed) (eqb kind kindReleased) s
     by false true e = refl
     by false false e = false-true (sym other ∙ e)
 
-pub spoken-small : (kind : ℕ) → speaks kind ≡ true → kind ≤ kindAxis
+spoken-small : (kind : ℕ) → speaks kind ≡ true → kind ≤ kindAxis
 unfolding speaks
 spoken-small kind s = by (eqb kind kindPressed) (eqb kind kindReleased) (eqb kind kindAxis) refl refl refl s
   where

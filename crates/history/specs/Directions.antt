@@ -34,7 +34,8 @@ use Rattle.history.specs.Dpad.{sides}
 use Rattle.history.specs.Opposites.{opposed}
 use Rattle.history.specs.Demand.{asked-pressed, asked-value, standing-truth, standing-value, cell-pressed, cell-value}
 
-module _ {h : Hub} {rs : List RawRecord} (w : Played h rs) (p n : ℕ) (old : p < h .pads) (converts : getD (h .converts) p false ≡ true) (hat : isHat n ≡ true) where
+module _ {h : Hub} {rs : List RawRecord} (w : Played h rs) (p n : ℕ) (old : p < h .pads) (converts : getD (h .converts) p false ≡ true)
+    (hat : isHat n ≡ true) where
   found : (positive x : Bool) → eqb n dpadX ≡ x → placeIn h p (directionCode positive n) < nowhere
   unfolding positiveCode negativeCode
   found true true e = rw e (direction-kept (reached w) p old 3 (omega arith))
@@ -61,7 +62,8 @@ module _ {h : Hub} {rs : List RawRecord} (w : Played h rs) (p n : ℕ) (old : p 
 
   -- ---- when none wait: nameOf and elementOf are what the pad's sheet says of a code
 
-  module _ (none : h .waiting ≡ 0) (nameOf : ℕ → ℕ) (elementOf : ℕ → Element) (names : (c : ℕ) → placeIn h p c < nowhere → getD (h .names) (placeIn h p c) noName ≡ nameOf c)
+  module _ (none : h .waiting ≡ 0) (nameOf : ℕ → ℕ) (elementOf : ℕ → Element)
+      (names : (c : ℕ) → placeIn h p c < nowhere → getD (h .names) (placeIn h p c) noName ≡ nameOf c)
       (elements : (c : ℕ) → placeIn h p c < nowhere → elementAt h (placeIn h p c) ≡ elementOf c) where
     -- the last value of the hat's axis, told from the records and the pad's sheet
     abbrev pub last : Float
@@ -97,7 +99,8 @@ module _ {h : Hub} {rs : List RawRecord} (w : Played h rs) (p n : ℕ) (old : p 
   module _ (no-plus : kindAt h (placeIn h p (positiveCode n)) ≡ 0) (no-minus : kindAt h (placeIn h p (negativeCode n)) ≡ 0) where
     pub opposites : (cellPressed (cellAt h (placeIn h p (positiveCode n))) && cellPressed (cellAt h (placeIn h p (negativeCode n)))) ≡ false
     opposites =
-        never-now (sheetOf h) (placeIn h p (positiveCode n)) (placeIn h p (negativeCode n)) (waitingList h) _ _ (opposed p n w (unlisted true no-plus) (unlisted false no-minus))
+        never-now (sheetOf h) (placeIn h p (positiveCode n)) (placeIn h p (negativeCode n)) (waitingList h) _ _
+        (opposed p n w (unlisted true no-plus) (unlisted false no-minus))
 
     -- by the queries
     pub opposites-read : pressedByCode h p (positiveCode n) ≡ truthAnswer.Is true → pressedByCode h p (negativeCode n) ≡ truthAnswer.Is false

@@ -22,7 +22,7 @@ use Rattle.rules.specs.Calls.{registeredAt, countedAt}
 use Rattle.promises.specs.Waiting.{waitingList}
 use Rattle.promises.specs.Reach.{reached-sound}
 use Rattle.registered.specs.Pads.{Desk, reached-desk}
-use Rattle.history.specs.Rule.{rejoins, speaks, hatValue, directionCode, pressingValue}
+use Rattle.history.specs.Rule.{rejoins, speaks, dispatchedValue, hatValue, directionCode, pressingValue}
 use Rattle.history.specs.Cells.{cellAt}
 use Rattle.history.specs.Turns.{ev}
 use Rattle.history.specs.Steps.{look, lookAt}
@@ -37,7 +37,7 @@ use Rattle.history.specs.Tidy.{tidy}
 use Rattle.history.specs.Fed.{repeat-cell, repeat-moved, update-sheet, update-queue}
 use Rattle.history.specs.Kept.{grown, Keeps, kept, unseen}
 use Rattle.history.specs.Sides.{Side, side-by, served-side}
-use Rattle.history.specs.Hats.{Unlisted, Sheeted, nameBy, turns, moves, turnsTo, joined-side, other-side, turned-side}
+use Rattle.history.specs.Hats.{Unlisted, Sheeted, nameBy, turns, moves, joined-side, other-side, turned-side}
 use Rattle.history.specs.HatGrown.{old-unlisted, old-sheeted, old-side, new-side}
 use Rattle.history.specs.Presses.{zero-presses}
 
@@ -63,11 +63,6 @@ module _ (p n : ℕ) (positive reversed : Bool) (nameOf : ℕ → ℕ) (elementO
   over : (h g : Hub) → Same h g → (b : Bool) → Side g (place h) b → Side g (place g) b
   over h g a b t = subst (λ (k : ℕ). Side g k b) (sym (same-place h g a p (directionCode positive n))) t
 
-  -- a record of another pad is none of this one's
-  foreign : (r : RawRecord) (rs : List RawRecord) → (r .pad ≡ p → ⊥) → value (r ∷ rs) ≡ value rs
-  unfolding hatValue
-  foreign r rs other = rw (foreign-joins p r other, ne-eqb (r .pad) p other)
-
   -- ---- a record
 
   module _ {h : Hub} {rs : List RawRecord} (w : Played h rs) (r : RawRecord) (none : h .waiting ≡ 0) (ok : Good h r) (on : On h) where
@@ -80,9 +75,7 @@ module _ (p n : ℕ) (positive reversed : Bool) (nameOf : ℕ → ℕ) (elementO
     -- a code of a record that speaks is listed, and so found
     found : r .pad ≡ p → speaks (r .kind) ≡ true → placeOf (h .codes) p (r .code) < nowhere
     unfolding recordKind
-    found pad spoken =
-        subst (λ (q : ℕ). placeOf (h .codes) q (r .code) < nowhere) pad
-        (listed-found h desk at (λ zero. spoken-listed h r ok spoken zero))
+    found pad spoken = subst (λ (q : ℕ). placeOf (h .codes) q (r .code) < nowhere) pad (listed-found h desk at (spoken-listed h r ok spoken))
 
     name-is : r .pad ≡ p → speaks (r .kind) ≡ true → nameBy h r ≡ nameOf (r .code)
     name-is pad spoken = ap (λ (q : ℕ). getD (h .names) (placeOf (h .codes) q (r .code)) noName) pad ∙ on .sheeted .name (r .code) (found pad spoken)
@@ -106,7 +99,7 @@ module _ (p n : ℕ) (positive reversed : Bool) (nameOf : ℕ → ℕ) (elementO
     unfolding hatValue
     other-value j t = rw (j, sym test-is ∙ t)
 
-    turned-value : rejoins p r ≡ false → turns h p n r ≡ true → value (r ∷ rs) ≡ turnsTo n (h .reversed) (elementAt h at) r
+    turned-value : rejoins p r ≡ false → turns h p n r ≡ true → value (r ∷ rs) ≡ dispatchedValue (h .reversed) n (elementAt h at) r
     unfolding hatValue
     turned-value j t =
         let m = moves h p n r t in
@@ -136,6 +129,11 @@ module _ (p n : ℕ) (positive reversed : Bool) (nameOf : ℕ → ℕ) (elementO
   unfolding hatValue
   shown-none = zero-presses positive
 
+  -- a record of another pad is none of this one's
+  shown-foreign : (r : RawRecord) (rs : List RawRecord) → (r .pad ≡ p → ⊥) → shown (r ∷ rs) ≡ shown rs
+  unfolding hatValue
+  shown-foreign r rs other = rw (foreign-joins p r other, ne-eqb (r .pad) p other)
+
   keeps : Keeps p On Holds
   keeps =
       record {
@@ -157,7 +155,7 @@ module _ (p n : ℕ) (positive reversed : Bool) (nameOf : ℕ → ℕ) (elementO
             };
         newer =
             λ h rs w s ok last on.
-            subst (Side (grown h s) (place (grown h s))) (sym (ap (λ (v : Float). eq v (pressingValue positive)) (unseen p value foreign w (omega arith)) ∙ shown-none))
+            subst (Side (grown h s) (place (grown h s))) (sym (unseen p shown shown-foreign w (omega arith) ∙ shown-none))
             (new-side h s (reached-desk (reached w)) ok p last (ready w .long) (tidy w) (directionCode positive n) (on .unlisted .plain .inside));
         older =
             λ h rs w s ok old on t.
@@ -177,6 +175,7 @@ module _ (p n : ℕ) (positive reversed : Bool) (nameOf : ℕ → ℕ) (elementO
             (repeat-cell h (ready w) pad time m c down (place h) found) (t .shows) (repeat-moved h (ready w) pad time m c down (place h) found (t .still)));
       }
 
-  pub sides : {h : Hub} {rs : List RawRecord} → Played h rs → Unlisted (sheetOf h) p n positive → Sheeted (sheetOf h) p nameOf elementOf → h .reversed ≡ reversed
+  pub sides : {h : Hub} {rs : List RawRecord} → Played h rs → Unlisted (sheetOf h) p n positive → Sheeted (sheetOf h) p nameOf elementOf
+      → h .reversed ≡ reversed
       → Side h (placeOf (h .codes) p (directionCode positive n)) (eq (hatValue reversed nameOf elementOf n p rs) (pressingValue positive))
   sides w unlisted sheeted reverse = kept p On Holds keeps w (record { unlisted = unlisted; sheeted = sheeted; reverse = reverse })

@@ -1,5 +1,5 @@
 -- A record that is taken, and the directions of a hat on a pad that takes it for them: one that joins the pad clears them, a move of the hat presses what its
--- value says, and any other record leaves them. Of a direction only that its own code is unlisted: the opposite one may be an element, even the hat itself.
+-- value says, and any other record leaves them. A direction's own code has to be unlisted; the opposite one may be an element, even the hat itself.
 use Prim.Native.Nat.{ℕ, _/_, _<_}
 use mathlib.Core.Bool.{Bool, true, false, cond, not, _&&_}
 use mathlib.Core.List.{List, []}
@@ -10,7 +10,6 @@ use lib.Ieee.{Float, eq}
 use lib.ListN.{getD}
 use borrow.Author.Tests.{eqb-true, eq-eqb, ne-eqb}
 use Rattle.numbers.specs.Constants.{one32, minusOne32}
-use Rattle.numbers.specs.Scale.{axisScaledOf}
 use Rattle.rules.specs.declared.Hub.{Hub}
 use Rattle.rules.specs.declared.Event.{Event}
 use Rattle.rules.specs.declared.EventType.the-variants.{Axis}
@@ -19,12 +18,12 @@ use Rattle.rules.specs.declared.Element.{Element}
 use Rattle.rules.specs.declared.View.{View}
 use Rattle.rules.specs.declared.Dispatched.{Dispatched}
 use Rattle.rules.specs.declared.Gives.{Gives}
-use Rattle.rules.specs.Names.{nowhere, noName, placesPerPad, isHat, isY, positiveCode, negativeCode, positiveName, negativeName}
+use Rattle.rules.specs.Names.{nowhere, noName, placesPerPad, isHat, positiveCode, negativeCode, positiveName, negativeName}
 use Rattle.rules.specs.Forms.{kindPressed, kindAxis}
 use Rattle.rules.specs.Places.{placeOf}
 use Rattle.rules.specs.Events.{queuedOf, nameOf}
 use Rattle.rules.specs.State.{readPressed}
-use Rattle.rules.specs.Dispatch.{pressing, moving, joining, leaving, moveOf, axisName, amount, from, single, pressGives, moveGives}
+use Rattle.rules.specs.Dispatch.{pressing, moving, joining, leaving, moveOf, axisName, from, single, pressGives, moveGives}
 use Rattle.rules.specs.Filters.{hatBy, hatGives}
 use Rattle.rules.specs.Hub.{placeIn, elementAt, pastElement, pressedAt, movedAt, hatPlace, viewAt, viewOf}
 use Rattle.rules.specs.Step.{takenOf, markedOf, recordKind, stepHub}
@@ -32,7 +31,7 @@ use Rattle.promises.specs.Waiting.{waitingList}
 use Rattle.promises.specs.Queue.{Sound}
 use Rattle.pad.specs.Lookup.{place-stands}
 use Rattle.registered.specs.Pads.{Desk}
-use Rattle.history.specs.Rule.{rejoins, speaks, directionCode, pressingValue}
+use Rattle.history.specs.Rule.{rejoins, speaks, dispatchedValue, directionCode, pressingValue}
 use Rattle.history.specs.Cells.{Cell, cellAt, cellPressed}
 use Rattle.history.specs.Turns.{outOf, hat-out, hat-more}
 use Rattle.history.specs.Steps.{Ready, lookAt}
@@ -71,6 +70,7 @@ nameBy h r = getD (h .names) (placeOf (h .codes) (r .pad) (r .code)) noName
 abbrev pub turns : Hub → ℕ → ℕ → RawRecord → Bool
 turns h p n r = eqb (r .pad) p && (speaks (r .kind) && eqb (nameBy h r) n)
 
+-- what it then is
 pub record Moves (h : Hub) (p n : ℕ) (r : RawRecord) : Type 0 where
   pub pad : r .pad ≡ p
   pub spoken : speaks (r .kind) ≡ true
@@ -84,11 +84,6 @@ moves h p n r t = by (eqb (r .pad) p) (speaks (r .kind)) (eqb (nameBy h r) n) re
     by true true false a b c e = false-true e
     by true false same a b c e = false-true e
     by false spoken same a b c e = false-true e
-
--- its value as it is dispatched
-abbrev pub turnsTo : ℕ → Bool → Element → RawRecord → Float
-turnsTo n reversed el r =
-    cond (eqb (r .kind) kindAxis) (axisScaledOf (el .low) (el .range) (el .odd) (reversed && isY n) (r .value)) (amount (eqb (r .kind) kindPressed))
 
 module _ (h : Hub) (w : Ready h) (desk : Desk h) (sound : Sound h) (p n : ℕ) (r : RawRecord) (ok : Good h r) (none : h .waiting ≡ 0) where
   abbrev s : Sheet
@@ -123,7 +118,7 @@ module _ (h : Hub) (w : Ready h) (desk : Desk h) (sound : Sound h) (p n : ℕ) (
     is-hat = takes-hat s p n hat
 
     abbrev to : Float
-    to = turnsTo n (h .reversed) (elementAt h at) r
+    to = dispatchedValue (h .reversed) n (elementAt h at) r
 
     abbrev e : Event
     e = from r (Axis n (r .code) to)
@@ -291,7 +286,7 @@ module _ (h : Hub) (w : Ready h) (desk : Desk h) (sound : Sound h) (p n : ℕ) (
         pub other-side : turns h p n r ≡ false → Side after k b
         other-side other = spared-side b shows still (other-aside other)
 
-        pub turned-side : turns h p n r ≡ true → Side after k (eq (turnsTo n (h .reversed) (elementAt h at) r) (pressingValue positive))
+        pub turned-side : turns h p n r ≡ true → Side after k (eq (dispatchedValue (h .reversed) n (elementAt h at) r) (pressingValue positive))
         turned-side t = taken-side h w sound r none k (u .plain .inside) _ still (move-turn (u .takes) (moves h p n r t) positive (u .plain .inside) b shows)
 
   -- ---- both

@@ -86,17 +86,18 @@ triggerReads pressed released e p c (r ∷ rs) =
     cond (rejoins p r) nothing
     (cond (concerns p c r) (triggerAfter pressed released e r (triggerReads pressed released e p c rs)) (triggerReads pressed released e p c rs))
 
--- "the last DPadX value": of the last record of an element that the pad's sheet names so, as it is dispatched. nameOf and elementOf: what the sheet says of a
--- code of the pad
+-- a record's value as it is dispatched for an axis of this name: an axis's is scaled, a button gives 1.0 or 0.0
+abbrev pub dispatchedValue : Bool → ℕ → Element → RawRecord → Float
+dispatchedValue reversed n e r =
+    cond (eqb (r .kind) kindAxis) (axisScaledOf (e .low) (e .range) (e .odd) (reversed && isY n) (r .value)) (amount (eqb (r .kind) kindPressed))
+
+-- "the last DPadX value": of the last record of an element that the pad's sheet names so. nameOf and elementOf: what the sheet says of a code of the pad
 unfoldable pub hatValue : Bool → (ℕ → ℕ) → (ℕ → Element) → ℕ → ℕ → List RawRecord → Float
 unfolding rejoins speaks isY
 hatValue reversed nameOf elementOf n p [] = zero32
 hatValue reversed nameOf elementOf n p (r ∷ rs) =
     cond (rejoins p r) zero32
-    (cond (eqb (r .pad) p && (speaks (r .kind) && eqb (nameOf (r .code)) n))
-    (cond (eqb (r .kind) kindAxis)
-    (axisScaledOf (elementOf (r .code) .low) (elementOf (r .code) .range) (elementOf (r .code) .odd) (reversed && isY n) (r .value))
-    (amount (eqb (r .kind) kindPressed)))
+    (cond (eqb (r .pad) p && (speaks (r .kind) && eqb (nameOf (r .code)) n)) (dispatchedValue reversed n (elementOf (r .code)) r)
     (hatValue reversed nameOf elementOf n p rs))
 
 -- a hat's two directions, the positive one for true: their codes
