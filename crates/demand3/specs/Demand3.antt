@@ -1,11 +1,11 @@
 -- Demand 3 on one page, from bytes to reads. A script is what a caller does with a fresh hub; from it and from what the calls answered are told the sheets
--- that were accepted, the records that were taken and what each step handed out; `ruleReads` is 01's history rule over these, which knows no queue; and
--- `Demand3` says what holds after every script. Theorem.antt proves it. Definitions only: a referee reads this page, `Rule` of history, and 01.
-use Prim.Native.Nat.{ℕ, zero, suc, _+_, _-_, _/_, _<_, _≤_}
+-- that were accepted, the records that were taken and the events that were written; `ruleReads` is 01's history rule over these, which knows no queue; and
+-- `Demand3` says of a pump what every script shows. Theorem.antt proves it of the pump. Definitions only: a referee reads this page, `Rule` of history, and 01.
+use Prim.Native.Nat.{ℕ, zero, suc, _+_, _-_, _*_, _/_, _<_, _≤_}
 use mathlib.Core.Bool.{Bool, true, false, cond, not, _&&_, _||_}
 use mathlib.Core.List.{List, [], _∷_, _++_}
 use mathlib.Core.Path.{_≡_}
-use lib.Dec.{eqb, ltb}
+use lib.Dec.{eqb}
 use lib.Ieee.{Float, eq}
 use lib.ListN.{length, getD}
 use Rattle.numbers.specs.Constants.{one32, minusOne32}
@@ -15,22 +15,21 @@ use Rattle.rules.specs.declared.Element.{Element}
 use Rattle.rules.specs.declared.SheetElement.{SheetElement}
 use Rattle.rules.specs.declared.RegisterAnswer.{RegisterAnswer}
 use Rattle.rules.specs.declared.RegisterAnswer.the-variants as registerAnswer
+use Rattle.rules.specs.declared.PumpAnswer.{PumpAnswer}
 use Rattle.rules.specs.declared.RepeatAnswer.{RepeatAnswer}
 use Rattle.rules.specs.declared.RepeatAnswer.the-variants as repeatAnswer
 use Rattle.rules.specs.declared.TruthAnswer.the-variants as truthAnswer
-use Rattle.rules.specs.declared.ValueAnswer.the-variants as valueAnswer
 use Rattle.rules.specs.Names.{noName, dpadX, dpadY, dpadRight, codeUp, codeDown, codeLeft, codeRight, isButton, isAxis}
 use Rattle.rules.specs.Forms.{recordSize}
 use Rattle.rules.specs.Sheets.{hatsOf, countOf, elementOf, elementButton, elementAxis, lastHats}
 use Rattle.rules.specs.Places.{noElement, listedRow}
-use Rattle.rules.specs.Refusals.{thresholdsRefusal, pumpRefusal}
+use Rattle.rules.specs.Refusals.{thresholdsRefusal}
 use Rattle.rules.specs.Events.{eventBytes}
 use Rattle.rules.specs.Repeat.{repeatOf}
-use Rattle.rules.specs.Pump.{Progress, Verdict, going, stopping, refusing, verdictOf, stepped, startOf, pumpOf}
 use Rattle.rules.specs.Calls.{newOf, registerOf, updateOf, incOf, resetOf}
-use Rattle.rules.specs.Queries.{pressedByCode, valueByCode}
-use Rattle.promises.specs.Machines.{placeSaid}
-use Rattle.history.specs.Rule.{recordsFrom, Reading, nothing, held, isDirection, buttonReads, triggerReads, hatValue}
+use Rattle.rules.specs.Queries.{pressedByCode}
+use Rattle.promises.specs.Machines.{Machine, said, placeSaid, eventsSaid, stepsSaid}
+use Rattle.history.specs.Rule.{recordsFrom, Reading, Reads, nothing, held, isDirection, buttonReads, triggerReads, hatValue}
 
 -- ---- what is called
 
@@ -53,6 +52,11 @@ pub data Script : Type 0 where
   _then_ : Script → Call → Script
 
 infixl 20 _then_
+-- and further calls
+abbrev pub goesOn : Script → List Call → Script
+goesOn s [] = s
+goesOn s (c ∷ cs) = goesOn (s then c) cs
+
 -- the settings are not refused, and a sheet is bytes
 abbrev pub Lends : Call → Type 0
 Lends (register sheet) = (i : ℕ) → getD sheet i 0 < 256
@@ -65,83 +69,53 @@ abbrev pub Allowed : Script → Type 0
 Allowed (new s) = thresholdsRefusal (s .pressed) (s .released) ≡ 0
 Allowed (s then c) = Allowed s × Lends c
 
--- ---- the hub after a script
+-- ---- the hub after a script, with any function for the pump, so that wrong ones can be tried
 
 abbrev pub fedBack : RepeatAnswer → Hub → Hub
 fedBack (repeatAnswer.Due e) h = updateOf h (eventBytes e) .hub
 fedBack repeatAnswer.Quiet h = h
 fedBack (repeatAnswer.Refused number) h = h
 
-abbrev pub called : Call → Hub → Hub
-called (register sheet) h = registerOf h sheet .hub
-called (pump batch place out allowance) h = pumpOf h batch place out allowance .pumped .hub
-called inc h = incOf h
-called reset h = resetOf h
-called (repeat after every clock true) h = fedBack (repeatOf h after every clock) h
-called (repeat after every clock false) h = h
+abbrev pub called : Machine → Call → Hub → Hub
+called m (register sheet) h = registerOf h sheet .hub
+called m (pump batch place out allowance) h = m h batch place out allowance .pumped .hub
+called m inc h = incOf h
+called m reset h = resetOf h
+called m (repeat after every clock true) h = fedBack (repeatOf h after every clock) h
+called m (repeat after every clock false) h = h
 
-unfoldable pub play : Script → Hub
-play (new s) = newOf (s .pressed) (s .released) (s .reversed) true true .hub
-play (s then c) = called c (play s)
+unfoldable pub play : Machine → Script → Hub
+play m (new t) = newOf (t .pressed) (t .released) (t .reversed) true true .hub
+play m (s then c) = called m c (play m s)
 
 unfoldable pub settingsOf : Script → Settings
-settingsOf (new s) = s
+settingsOf (new t) = t
 settingsOf (s then c) = settingsOf s
 
 -- ---- the records that were taken, the newest first: those that stand in the batch from the place given to the place answered
 
-abbrev pub takenBy : Call → Hub → List RawRecord → List RawRecord
-takenBy (register sheet) h rs = rs
-takenBy (pump batch place out allowance) h rs =
-    recordsFrom ((placeSaid (pumpOf h batch place out allowance .pumped .answer) - place) / recordSize) batch place rs
-takenBy inc h rs = rs
-takenBy reset h rs = rs
-takenBy (repeat after every clock fed) h rs = rs
+abbrev pub takenBy : PumpAnswer → List ℕ → ℕ → List RawRecord → List RawRecord
+takenBy a batch place rs = recordsFrom ((placeSaid a - place) / recordSize) batch place rs
 
-unfoldable pub recordsOf : Script → List RawRecord
-recordsOf (new s) = []
-recordsOf (s then c) = takenBy c (play s) (recordsOf s)
+unfoldable pub recordsOf : Machine → Script → List RawRecord
+unfolding play
+recordsOf m (new t) = []
+recordsOf m (s then register sheet) = recordsOf m s
+recordsOf m (s then pump batch place out allowance) = takenBy (said m (play m s) batch place out allowance) batch place (recordsOf m s)
+recordsOf m (s then inc) = recordsOf m s
+recordsOf m (s then reset) = recordsOf m s
+recordsOf m (s then repeat after every clock fed) = recordsOf m s
 
--- ---- what a pump's steps do: whether the place moved on, which is a record taken; the events that waited before; the events written
+-- ---- the events that were written, as the answers count them
 
-pub record Turn : Type 0 where
-  pub took : Bool
-  pub waited : ℕ
-  pub wrote : ℕ
-
-abbrev pub turnOf : Progress → Progress → Turn
-turnOf p q = record { took = ltb (p .at) (q .at); waited = p .hub .waiting; wrote = q .events - p .events }
-
--- a run's turns, the newest first, before those of earlier calls
-unfoldable pub turnsOfRun : ℕ → Verdict → List ℕ → Progress → List Turn → List Turn
-turnsOfRun zero v s p ts = ts
-turnsOfRun (suc left) going s p ts = turnsOfRun left (verdictOf left s (stepped s p)) s (stepped s p) (turnOf p (stepped s p) ∷ ts)
-turnsOfRun (suc left) (stopping why) s p ts = ts
-turnsOfRun (suc left) (refusing number) s p ts = ts
-
-abbrev pub turnsOfPump : ℕ → Hub → List ℕ → ℕ → List ℕ → ℕ → List Turn → List Turn
-turnsOfPump zero h s place out allowance ts = turnsOfRun allowance (verdictOf allowance s (startOf h place out)) s (startOf h place out) ts
-turnsOfPump (suc number) h s place out allowance ts = ts
-
-abbrev pub turnedBy : Call → Hub → List Turn → List Turn
-turnedBy (register sheet) h ts = ts
-turnedBy (pump batch place out allowance) h ts = turnsOfPump (pumpRefusal (length batch) (length out) place) h batch place out allowance ts
-turnedBy inc h ts = ts
-turnedBy reset h ts = ts
-turnedBy (repeat after every clock fed) h ts = ts
-
-unfoldable pub turnsOf : Script → List Turn
-turnsOf (new s) = []
-turnsOf (s then c) = turnedBy c (play s) (turnsOf s)
-
--- the events written from each taking to the next, the newest first
-abbrev pub more : ℕ → List ℕ → List ℕ
-more n [] = n ∷ []
-more n (m ∷ ms) = (m + n) ∷ ms
-
-unfoldable pub handed : List Turn → List ℕ
-handed [] = []
-handed (t ∷ ts) = cond (t .took) (t .wrote ∷ handed ts) (more (t .wrote) (handed ts))
+unfoldable pub eventsOf : Machine → Script → ℕ
+unfolding play
+eventsOf m (new t) = 0
+eventsOf m (s then register sheet) = eventsOf m s
+eventsOf m (s then pump batch place out allowance) = eventsOf m s + eventsSaid (said m (play m s) batch place out allowance)
+eventsOf m (s then inc) = eventsOf m s
+eventsOf m (s then reset) = eventsOf m s
+eventsOf m (s then repeat after every clock fed) = eventsOf m s
 
 -- ---- the sheets that were accepted, as they read, pad 0's first
 
@@ -162,16 +136,14 @@ abbrev pub acceptedBy : RegisterAnswer → List ℕ → List Sheet → List Shee
 acceptedBy (registerAnswer.Pad p) s sheets = sheets ++ (sheetRead s ∷ [])
 acceptedBy (registerAnswer.Refused number) s sheets = sheets
 
-abbrev pub addedBy : Call → Hub → List Sheet → List Sheet
-addedBy (register sheet) h sheets = acceptedBy (registerOf h sheet .answer) sheet sheets
-addedBy (pump batch place out allowance) h sheets = sheets
-addedBy inc h sheets = sheets
-addedBy reset h sheets = sheets
-addedBy (repeat after every clock fed) h sheets = sheets
-
-unfoldable pub sheetsOf : Script → List Sheet
-sheetsOf (new s) = []
-sheetsOf (s then c) = addedBy c (play s) (sheetsOf s)
+unfoldable pub sheetsOf : Machine → Script → List Sheet
+unfolding play
+sheetsOf m (new t) = []
+sheetsOf m (s then register sheet) = acceptedBy (registerOf (play m s) sheet .answer) sheet (sheetsOf m s)
+sheetsOf m (s then pump batch place out allowance) = sheetsOf m s
+sheetsOf m (s then inc) = sheetsOf m s
+sheetsOf m (s then reset) = sheetsOf m s
+sheetsOf m (s then repeat after every clock fed) = sheetsOf m s
 
 abbrev pub noSheet : Sheet
 noSheet = record { hats = 0; elements = [] }
@@ -195,11 +167,12 @@ abbrev pub lookupElement : Lookup → Element
 lookupElement (listed e) = listedRow e .element
 lookupElement unlisted = noElement
 
--- "hats is 15, or hats is 0 and no direction code is named and no element is named DPadRight"
+-- "no direction code is named and no element is named DPadRight"
 unfoldable pub speaksOfHats : List SheetElement → Bool
 speaksOfHats [] = false
-speaksOfHats (e ∷ es) = (isDirection (e .code) && not (eqb (e .name) noName)) || (eqb (e .name) dpadRight || speaksOfHats es)
+speaksOfHats (e ∷ es) = ((isDirection (e .code) && not (eqb (e .name) noName)) || eqb (e .name) dpadRight) || speaksOfHats es
 
+-- "A pad converts if hats is 15, or hats is 0 and .."
 unfoldable pub converts : Sheet → Bool
 unfolding speaksOfHats
 converts s = eqb (s .hats) lastHats || (eqb (s .hats) 0 && not (speaksOfHats (s .elements)))
@@ -243,32 +216,23 @@ ruleReads t s p c rs = readsBy (converts s && isDirection c) (lookup c (s .eleme
 
 -- ---- demand 3
 
--- what the queries of a pad's code answer
-pub record Answers (h : Hub) (p c : ℕ) (x : Reading) : Type 0 where
-  pub pressed : pressedByCode h p c ≡ truthAnswer.Is (x .pressed)
-  pub value : valueByCode h p c ≡ valueAnswer.Value (x .value)
-
 -- two directions of one hat
 pub data Opposite : ℕ → ℕ → Type 0 where
   left-right : Opposite codeLeft codeRight
   down-up : Opposite codeDown codeUp
 
--- each record, and the events that it handed out before the next was taken
-pub data AtMostFour : List RawRecord → List ℕ → Type 0 where
-  none : AtMostFour [] []
-  next : {r : RawRecord} {rs : List RawRecord} {n : ℕ} {ns : List ℕ} → n ≤ 4 → AtMostFour rs ns → AtMostFour (r ∷ rs) (n ∷ ns)
-
--- a record is taken only when nothing waits
-pub data AllBefore : List Turn → Type 0 where
-  none : AllBefore []
-  next : {t : Turn} {ts : List Turn} → (t .took ≡ true → t .waited ≡ 0) → AllBefore ts → AllBefore (t ∷ ts)
-
--- of the pads that the script registered; `waiting` is what the call of that name answers
-pub record Demand3 (s : Script) : Type 0 where
-  pub reads : (p c : ℕ) (x : Reading) → p < length (sheetsOf s) → play s .waiting ≡ 0
-      → ruleReads (settingsOf s) (getD (sheetsOf s) p noSheet) p c (recordsOf s) ≡ says x → Answers (play s) p c x
-  pub opposites : (p c d : ℕ) → p < length (sheetsOf s) → converts (getD (sheetsOf s) p noSheet) ≡ true → Opposite c d
-      → lookup c (getD (sheetsOf s) p noSheet .elements) ≡ unlisted → lookup d (getD (sheetsOf s) p noSheet .elements) ≡ unlisted
-      → pressedByCode (play s) p c ≡ truthAnswer.Is true → pressedByCode (play s) p d ≡ truthAnswer.Is false
-  pub four : AtMostFour (recordsOf s) (handed (turnsOf s))
-  pub before : AllBefore (turnsOf s)
+-- what every script shows of a pump; `waiting` is what the call of that name answers
+pub record Demand3 (m : Machine) : Type 0 where
+  -- "when none wait, every button, trigger and hat direction reads as 01's history rule says"
+  pub reads : (s : Script) → Allowed s → play m s .waiting ≡ 0 → (p c : ℕ) (x : Reading) → p < length (sheetsOf m s)
+      → ruleReads (settingsOf s) (getD (sheetsOf m s) p noSheet) p c (recordsOf m s) ≡ says x → Reads (play m s) p c x
+  -- "on a converting pad opposite directions never read pressed together", whatever waits
+  pub opposites : (s : Script) → Allowed s → (p c d : ℕ) → p < length (sheetsOf m s) → converts (getD (sheetsOf m s) p noSheet) ≡ true → Opposite c d
+      → lookup c (getD (sheetsOf m s) p noSheet .elements) ≡ unlisted → lookup d (getD (sheetsOf m s) p noSheet .elements) ≡ unlisted
+      → pressedByCode (play m s) p c ≡ truthAnswer.Is true → pressedByCode (play m s) p d ≡ truthAnswer.Is false
+  -- "each record hands out at most four events": from any moment at which nothing waits to any later one, whatever stops lie between
+  pub four : (s : Script) (cs : List Call) → Allowed (goesOn s cs) → play m s .waiting ≡ 0
+      → eventsOf m (goesOn s cs) ≤ eventsOf m s + 4 * (length (recordsOf m (goesOn s cs)) - length (recordsOf m s))
+  -- "before the next is taken": no record is taken in the steps that what waits still needs
+  pub before : (s : Script) → Allowed s → (batch : List ℕ) (place : ℕ) (out : List ℕ) (allowance : ℕ)
+      → stepsSaid (said m (play m s) batch place out allowance) ≤ play m s .waiting → placeSaid (said m (play m s) batch place out allowance) ≡ place

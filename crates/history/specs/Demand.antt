@@ -23,7 +23,7 @@ use Rattle.rules.specs.Queries.{padRefusal, truthBy, valueBy, pressedByCode, va
 use Rattle.promises.specs.Waiting.{waitingList}
 use Rattle.registered.specs.Pads.{Desk, reached-desk, direction-kept}
 use Rattle.signs.specs.Proper.{Proper, proper-eq}
-use Rattle.history.specs.Rule.{Reading, isDirection, buttonReads, triggerReads, nothing}
+use Rattle.history.specs.Rule.{Reading, Reads, isDirection, buttonReads, triggerReads, nothing}
 use Rattle.history.specs.Cells.{cellAt, cellPressed, cellValue}
 use Rattle.history.specs.Waits.{Sheet, sheetOf, axialAt, takes}
 use Rattle.history.specs.Served.{due}
@@ -34,11 +34,6 @@ use Rattle.history.specs.Sorts.{button, trigger, Is, silent}
 use Rattle.history.specs.Codes.{tells}
 use Rattle.history.specs.Truth.{false-true, true-false}
 use Rattle.history.specs.Partner.{unlisted-name}
-
--- what the two queries of a code answer
-pub record Reads (h : Hub) (p c : ℕ) (x : Reading) : Type 0 where
-  pub pressed : pressedByCode h p c ≡ truthAnswer.Is (x .pressed)
-  pub value : valueByCode h p c ≡ valueAnswer.Value (x .value)
 
 -- ---- directions
 

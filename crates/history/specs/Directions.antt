@@ -21,7 +21,7 @@ use Rattle.rules.specs.Names.{nowhere, noName, isAxis, isHat, dpadX, positiveCo
 use Rattle.rules.specs.Hub.{placeIn, kindAt, elementAt, movedAt}
 use Rattle.promises.specs.Waiting.{waitingList}
 use Rattle.registered.specs.Pads.{reached-desk, direction-kept}
-use Rattle.history.specs.Rule.{held, hatValue}
+use Rattle.history.specs.Rule.{Reads, held, hatValue}
 use Rattle.history.specs.Cells.{cellAt, cellPressed}
 use Rattle.history.specs.Waits.{sheetOf, axialAt, takes}
 use Rattle.history.specs.Partner.{unlisted-name}
@@ -31,7 +31,7 @@ use Rattle.history.specs.Written.{writes, never-now}
 use Rattle.history.specs.Sides.{Shows, Sides, Plain}
 use Rattle.history.specs.Hats.{Axle}
 use Rattle.history.specs.Dpad.{sides}
-use Rattle.history.specs.Demand.{Reads, asked-pressed, asked-value, standing-truth, standing-value, cell-pressed, cell-value}
+use Rattle.history.specs.Demand.{asked-pressed, asked-value, standing-truth, standing-value, cell-pressed, cell-value}
 use Rattle.history.specs.Truth.{false-true}
 
 -- ---- 1.0 is not -1.0

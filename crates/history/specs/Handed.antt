@@ -15,7 +15,7 @@ use Rattle.rules.specs.declared.RawRecord.{RawRecord}
 use Rattle.rules.specs.declared.Dispatched.{Dispatched}
 use Rattle.rules.specs.Names.{nowhere, noName, partnerOf, padLimit, flagsPerPad, flagOf}
 use Rattle.rules.specs.Places.{placeOf, namedOf, clearedOf}
-use Rattle.rules.specs.Refusals.{thresholdsRefusal}
+use Rattle.rules.specs.Refusals.{thresholdsRefusal, formRefusal}
 use Rattle.rules.specs.Events.{nameOf}
 use Rattle.rules.specs.Filters.{filteredOf}
 use Rattle.rules.specs.Dispatch.{moveOf, dispatchBy, single}
@@ -31,14 +31,17 @@ use Rattle.history.specs.Waits.{sheetOf, All, empty, head-of, Fit, Sheet
 use Rattle.history.specs.Views.{sees, partner-is}
 use Rattle.history.specs.Take.{queueOf, taken-as}
 use Rattle.history.specs.Records.{none-waits}
-use Rattle.history.specs.Played.{Played, fresh, register, take, serve, inc, reset, repeat, reached, ready, Repeats, refusal, update-is}
+use Rattle.history.specs.Played.{Played, fresh, register, take, serve, inc, reset, repeat, reached, ready}
 use Rattle.history.specs.Tidy.{tidy}
 use Rattle.history.specs.Tails.{Tail, Less, Flagged, next-tail, buttons, lone}
 use Rattle.history.specs.Brings.{Few, brings}
 use Rattle.rules.specs.declared.EventForm.{EventForm}
+use Rattle.rules.specs.declared.EventRead.{EventRead}
+use Rattle.rules.specs.declared.EventRead.the-variants as eventRead
+use Rattle.rules.specs.Forms.{readEvent}
 use Rattle.rules.specs.declared.EventType.the-variants.{Axis}
 use Rattle.rules.specs.State.{nextCounter}
-use Rattle.rules.specs.Calls.{freshHub, newBy, newOf, registerRefusal, registeredAt, registerBy, registerOf, updateFormBy, updateOf, countedAt, incOf, resetOf}
+use Rattle.rules.specs.Calls.{freshHub, newBy, newOf, registerRefusal, registeredAt, registerBy, registerOf, formPlace, updateFormBy, updateBy, updateOf, countedAt, incOf, resetOf}
 use Rattle.registered.specs.Columns.{accepted}
 use Rattle.history.specs.Marks.{cleared-before, cleared-behind}
 use Rattle.history.specs.Flags.{and-parts, upAt}
@@ -166,8 +169,13 @@ pub reset-still : (h : Hub) (b : ℕ) → Still h b → Still (resetOf h) b
 unfolding resetOf
 reset-still h b t = counted-tail h 0 b t
 
-pub repeat-still : (h : Hub) (bytes : List ℕ) → Repeats h bytes → (b : ℕ) → Still h b → Still (updateOf h bytes .hub) b
-repeat-still h bytes is b t = subst (λ (g : Hub). Still g b) (sym (update-is h bytes is)) (form-tail (refusal h bytes is) h (is .form) b t)
+pub update-still : (h : Hub) (bytes : List ℕ) (b : ℕ) → Still h b → Still (updateOf h bytes .hub) b
+unfolding updateOf
+update-still h bytes b t = read-still (readEvent bytes)
+  where
+    read-still : (r : EventRead) → Still (updateBy r h .hub) b
+    read-still (eventRead.Form f) = form-tail (formRefusal f (h .pads) (formPlace h f)) h f b t
+    read-still eventRead.Malformed = t
 
 -- ---- whatever is played
 
@@ -198,4 +206,4 @@ still (reset {h} w) =
     record { bound = s .bound; tail = reset-still h (s .bound) (s .tail); few = s .few }
 still (repeat {h} bytes is w) =
     let s = still w in
-    record { bound = s .bound; tail = repeat-still h bytes is (s .bound) (s .tail); few = s .few }
+    record { bound = s .bound; tail = update-still h bytes (s .bound) (s .tail); few = s .few }

@@ -14,59 +14,16 @@ use Rattle.rules.specs.declared.Row.{Row}
 use Rattle.rules.specs.Names.{padLimit, placesPerPad, nowhere, noName, isAxis, partnerOf, leftStickX, leftStickY, rightStickX, rightStickY, dpadX, dpadY}
 use Rattle.rules.specs.declared.SheetElement.{SheetElement}
 use Rattle.rules.specs.Sheets.{countOf, elementOf, elementButton, elementAxis, buttonFits, axisFits, sheetRefusal}
-use Rattle.rules.specs.Places.{placeOf, namedOf, unlistedRow, listedRow, nextRow, elementNext, directionNext, rowsFrom, rowsOf, oneIf}
+use Rattle.rules.specs.Places.{placeOf, namedOf, unlistedRow}
+use Rattle.rules.specs.Calls.{rowName}
 use Rattle.pad.specs.Lookup.{named-stands, place-stands}
 use Rattle.sheets.specs.Laws.{element-fits, sort}
-use Rattle.registered.specs.Columns.{rowAt}
+use Rattle.registered.specs.Columns.{rowAt, inside-any}
 use Rattle.registered.specs.Found.{listed}
+use Rattle.registered.specs.Listing.{Of, row-of, row-code, row-kind, row-name}
 use Rattle.registered.specs.Pads.{Desk}
 use Rattle.history.specs.Waits.{sheetOf, axialAt}
 use Rattle.history.specs.Truth.{true-false}
-
--- a row is a listed element's
-pub record Of (s : List ℕ) (n : ℕ) (row : Row) : Type 0 where
-  pub element : ℕ
-  pub inside : element < n
-  pub is : row ≡ listedRow (elementOf s element)
-
-next-of : (s : List ℕ) (n i d last : ℕ) (mine : Bool) → elementNext s n i d ≡ mine → (nextRow s n i d last .name ≡ noName) ⊎ Of s n (nextRow s n i d last)
-unfolding nextRow elementNext
-next-of s n i d last true e = inr (record { element = i; inside = ltb-true i n (first (ltb i n) _ e); is = rw e })
-  where
-    first : (a b : Bool) → (a && b) ≡ true → a ≡ true
-    first true b e = refl
-    first false b e = e
-next-of s n i d last false e = inl (rw e)
-
-rows-of : (k : ℕ) (s : List ℕ) (n i d last j : ℕ)
-    → (getD (rowsFrom k s n i d last) j (unlistedRow 0) .name ≡ noName) ⊎ Of s n (getD (rowsFrom k s n i d last) j (unlistedRow 0))
-unfolding rowsFrom
-rows-of zero s n i d last j = inl refl
-rows-of (suc k) s n i d last zero = next-of s n i d last (elementNext s n i d) refl
-rows-of (suc k) s n i d last (suc j) =
-    rows-of k s n (i + oneIf (elementNext s n i d)) (d + oneIf (directionNext s n i d)) (nextRow s n i d last .code) j
-
--- its code, its kind and its name
-row-code : (s : List ℕ) (n : ℕ) (row : Row) (o : Of s n row) → row .code ≡ elementOf s (o .element) .code
-unfolding listedRow
-row-code s n row o = ap (λ (r : Row). r .code) (o .is)
-
-row-kind : (s : List ℕ) (n : ℕ) (row : Row) (o : Of s n row) → row .kind ≡ elementOf s (o .element) .kind
-unfolding listedRow
-row-kind s n row o = ap (λ (r : Row). r .kind) (o .is)
-
-row-name : (s : List ℕ) (n : ℕ) (row : Row) (o : Of s n row) → row .name ≡ elementOf s (o .element) .name
-unfolding listedRow
-row-name s n row o = ap (λ (r : Row). r .name) (o .is)
-
-row-of : (s : List ℕ) (j : ℕ) → (rowAt s j .name ≡ noName) ⊎ Of s (countOf s) (rowAt s j)
-unfolding rowAt rowsOf
-row-of s j = rows-of placesPerPad s (countOf s) 0 0 0 j
-
-inside-any : {A : Type 0} (l : List A) (j : ℕ) (d e : A) → j < length l → getD l j d ≡ getD l j e
-inside-any [] j d e short = absurd (omega arith)
-inside-any (x ∷ xs) zero d e short = refl
-inside-any (x ∷ xs) (suc j) d e short = inside-any xs j d e (omega arith)
 
 module _ (h : Hub) (desk : Desk h) (p : ℕ) (old : p < h .pads) (n : ℕ) (some : n ≡ noName → ⊥) where
   abbrev place : ℕ
@@ -82,21 +39,21 @@ module _ (h : Hub) (desk : Desk h) (p : ℕ) (old : p < h .pads) (n : ℕ) (some
       let at : placesPerPad * p + (place - placesPerPad * p) ≡ place = omega arith in
       let j : place - placesPerPad * p < placesPerPad = omega arith in
       let name : rowAt (w .sheet) (place - placesPerPad * p) .name ≡ n =
-      sym (w .keeps .names (place - placesPerPad * p) j)
+      sym (w .kept .keeps .names (place - placesPerPad * p) j)
       ∙ (ap (λ (i : ℕ). getD (h .names) i noName) at ∙ (inside-any (h .names) place noName 0 (rw (desk .sized .names) found) ∙ st .has)) in
       let code : getD (h .codes) place 0 ≡ rowAt (w .sheet) (place - placesPerPad * p) .code =
-      sym (ap (λ (i : ℕ). getD (h .codes) i 0) at) ∙ w .keeps .codes (place - placesPerPad * p) j in
+      sym (ap (λ (i : ℕ). getD (h .codes) i 0) at) ∙ w .kept .keeps .codes (place - placesPerPad * p) j in
       by stands name code (row-of (w .sheet) (place - placesPerPad * p))
     where
       by : p < padLimit → rowAt (desk .sheets p old .sheet) (place - placesPerPad * p) .name ≡ n
           → getD (h .codes) place 0 ≡ rowAt (desk .sheets p old .sheet) (place - placesPerPad * p) .code
-          → (rowAt (desk .sheets p old .sheet) (place - placesPerPad * p) .name ≡ noName)
+          → (rowAt (desk .sheets p old .sheet) (place - placesPerPad * p) ≡ unlistedRow (rowAt (desk .sheets p old .sheet) (place - placesPerPad * p) .code))
           ⊎ Of (desk .sheets p old .sheet) (countOf (desk .sheets p old .sheet)) (rowAt (desk .sheets p old .sheet) (place - placesPerPad * p))
           → getD (h .names) (placeOf (h .codes) p (getD (h .codes) place 0)) noName ≡ n
-      by stands name code (inl none) = absurd (some (sym name ∙ none))
+      by stands name code (inl none) = absurd (some (sym name ∙ ap rowName none))
       by stands name code (inr o) =
           let w = desk .sheets p old in
-          let l = listed h p (w .sheet) stands (w .taken) (w .keeps) (o .element) (o .inside) in
+          let l = listed h p (w .sheet) stands (w .kept .taken) (w .kept .keeps) (o .element) (o .inside) in
           let c : getD (h .codes) place 0 ≡ elementOf (w .sheet) (o .element) .code = code ∙ row-code (w .sheet) (countOf (w .sheet)) _ o in
           let m : elementOf (w .sheet) (o .element) .name ≡ n = sym (row-name (w .sheet) (countOf (w .sheet)) _ o) ∙ name in
           rw c (l .name ∙ m)
@@ -111,13 +68,13 @@ unlisted-name h desk p old c found none =
     let at : placesPerPad * p + (k - placesPerPad * p) ≡ k = omega arith in
     let j : k - placesPerPad * p < placesPerPad = omega arith in
     let name : getD (h .names) k noName ≡ rowAt (w .sheet) (k - placesPerPad * p) .name =
-    sym (ap (λ (i : ℕ). getD (h .names) i noName) at) ∙ w .keeps .names (k - placesPerPad * p) j in
+    sym (ap (λ (i : ℕ). getD (h .names) i noName) at) ∙ w .kept .keeps .names (k - placesPerPad * p) j in
     let kind : rowAt (w .sheet) (k - placesPerPad * p) .kind ≡ 0 =
-    sym (w .keeps .kinds (k - placesPerPad * p) j) ∙ (ap (λ (i : ℕ). getD (h .kinds) i 0) at ∙ none) in
-    name ∙ by (w .sheet) (w .taken) (rowAt (w .sheet) (k - placesPerPad * p)) kind (row-of (w .sheet) (k - placesPerPad * p))
+    sym (w .kept .keeps .kinds (k - placesPerPad * p) j) ∙ (ap (λ (i : ℕ). getD (h .kinds) i 0) at ∙ none) in
+    name ∙ by (w .sheet) (w .kept .taken) (rowAt (w .sheet) (k - placesPerPad * p)) kind (row-of (w .sheet) (k - placesPerPad * p))
   where
-    by : (s : List ℕ) → sheetRefusal s ≡ 0 → (row : Row) → row .kind ≡ 0 → (row .name ≡ noName) ⊎ Of s (countOf s) row → row .name ≡ noName
-    by s taken row kind (inl name) = name
+    by : (s : List ℕ) → sheetRefusal s ≡ 0 → (row : Row) → row .kind ≡ 0 → (row ≡ unlistedRow (row .code)) ⊎ Of s (countOf s) row → row .name ≡ noName
+    by s taken row kind (inl none) = ap rowName none
     by s taken row kind (inr o) =
         absurd (listed (elementOf s (o .element)) (sort (elementOf s (o .element)) (element-fits s taken (o .element) (o .inside))) (sym (row-kind s (countOf s) row o) ∙ kind))
       where

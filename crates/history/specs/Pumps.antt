@@ -27,7 +27,7 @@ use Rattle.history.specs.Flags.{and-parts}
 use Rattle.history.specs.Tails.{Less}
 use Rattle.history.specs.Brings.{Few}
 use Rattle.history.specs.Handed.{Still, none-still, take-few, serve-less, still}
-use Rattle.history.specs.Runs.{Goes, endOf, end-is, pump-ends}
+use Rattle.history.specs.Runs.{Goes, endOf, pump-holds}
 
 -- ---- a step
 
@@ -152,10 +152,8 @@ pub pump-counts : (h : Hub) (s : List ℕ) (place : ℕ) (out : List ℕ) (allow
     → Took s place rs b (endOf (pumpOf h s place out allowance))
 unfolding recordsFrom
 pump-counts h s place out allowance rs w b t =
-    let e =
-    pump-ends s (λ left p. Took s place rs b p) (took-on s place rs b) h place out allowance
-    (record { count = 0; place = omega arith; inside = λ i. i; played = w; bound = b; tail = t; events = omega arith; steps = omega arith }) in
-    rw (e .ends) (rw (end-is (e .verdict) (e .stop)) (e .holds))
+    pump-holds s (Took s place rs b) (took-on s place rs b) h place out allowance
+    (record { count = 0; place = omega arith; inside = λ i. i; played = w; bound = b; tail = t; events = omega arith; steps = omega arith })
 
 -- after a pump the records taken are those taken before it and the batch's between the place given and the place answered
 pub pump-took : (h : Hub) (s : List ℕ) (place : ℕ) (out : List ℕ) (allowance : ℕ) (rs : List RawRecord) (w : Played h rs)

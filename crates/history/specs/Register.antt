@@ -56,10 +56,10 @@ module _ (h : Hub) (s : List ℕ) (desk : Desk h) (ok : registerRefusal (h .pads
     old-place c =
         let w = desk .sheets q old in
         let f = few in
-        let keeps = register-others h s (desk .sized) f q (w .sheet) old (w .keeps) in
+        let keeps = register-others h s (desk .sized) f q (w .sheet) old (w .kept .keeps) in
         sym
-        (place-same (h .codes) (next .codes) (h .names) (next .names) q (omega arith) (keeps-rise h q (w .sheet) (w .taken) (w .keeps))
-        (keeps-rise next q (w .sheet) (w .taken) keeps) same-codes same-names (desk .sized .names) (register-sized h s (desk .sized) .names) c)
+        (place-same (h .codes) (next .codes) (h .names) (next .names) q (omega arith) (keeps-rise h q (w .sheet) (w .kept .taken) (w .kept .keeps))
+        (keeps-rise next q (w .sheet) (w .kept .taken) keeps) same-codes same-names (desk .sized .names) (register-sized h s (desk .sized) .names) c)
 
     pub old-converts : getD (next .converts) q false ≡ getD (h .converts) q false
     unfolding registeredAt

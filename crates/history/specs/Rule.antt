@@ -3,16 +3,21 @@
 use Prim.Native.Nat.{ℕ, zero, suc, _+_}
 use mathlib.Core.Bool.{Bool, false, cond, not, _&&_, _||_}
 use mathlib.Core.List.{List, [], _∷_}
+use mathlib.Core.Path.{_≡_}
 use lib.Dec.{eqb}
 use lib.Ieee.{Float, le}
 use Rattle.numbers.specs.Constants.{zero32}
 use Rattle.numbers.specs.Scale.{axisScaledOf, buttonScaledOf}
 use Rattle.numbers.specs.Deadzone.{deadzoneOf}
+use Rattle.rules.specs.declared.Hub.{Hub}
 use Rattle.rules.specs.declared.RawRecord.{RawRecord}
 use Rattle.rules.specs.declared.Element.{Element}
+use Rattle.rules.specs.declared.TruthAnswer.the-variants as truthAnswer
+use Rattle.rules.specs.declared.ValueAnswer.the-variants as valueAnswer
 use Rattle.rules.specs.Names.{isY, codeUp, codeDown, codeLeft, codeRight}
 use Rattle.rules.specs.Forms.{recordFields, recordSize, kindPressed, kindReleased, kindAxis, kindConnected}
 use Rattle.rules.specs.Dispatch.{amount}
+use Rattle.rules.specs.Queries.{pressedByCode, valueByCode}
 
 -- "records are those taken": n records of a batch from a place on, before those that were taken earlier
 unfoldable pub recordsFrom : ℕ → List ℕ → ℕ → List RawRecord → List RawRecord
@@ -23,6 +28,11 @@ recordsFrom (suc n) batch place rs = recordsFrom n batch (place + recordSize) (r
 pub record Reading : Type 0 where
   pub pressed : Bool
   pub value : Float
+
+-- "Reads are by code": what the two queries answer
+pub record Reads (h : Hub) (p c : ℕ) (x : Reading) : Type 0 where
+  pub pressed : pressedByCode h p c ≡ truthAnswer.Is (x .pressed)
+  pub value : valueByCode h p c ≡ valueAnswer.Value (x .value)
 
 -- "false and 0.0 if none"
 abbrev pub nothing : Reading

@@ -27,7 +27,7 @@ endOf r =
     }
 
 -- it answers where it stands
-pub end-is : (v : Verdict) (p : Progress) → endOf (endedBy v p) ≡ p
+end-is : (v : Verdict) (p : Progress) → endOf (endedBy v p) ≡ p
 end-is going p = refl
 end-is (stopping why) p = by (eqb why drained) (eqb why full) refl refl
   where
@@ -131,3 +131,10 @@ module _ (s : List ℕ) (Holds : ℕ → Progress → Type 0)
   pub pump-ends : (h : Hub) (place : ℕ) (out : List ℕ) (allowance : ℕ) → Holds allowance (startOf h place out) → Ending (pumpOf h s place out allowance)
   unfolding pumpOf
   pump-ends h place out allowance w = by-ends (pumpRefusal (length s) (length out) place) h place out allowance w
+
+-- where what holds does not speak of the allowance
+module _ (s : List ℕ) (Holds : Progress → Type 0) (keeps : (left : ℕ) (p : Progress) → Goes (suc left) s p → Holds p → Holds (stepped s p)) where
+  pub pump-holds : (h : Hub) (place : ℕ) (out : List ℕ) (allowance : ℕ) → Holds (startOf h place out) → Holds (endOf (pumpOf h s place out allowance))
+  pump-holds h place out allowance w =
+      let e = pump-ends s (λ left p. Holds p) keeps h place out allowance w in
+      rw (e .ends) (rw (end-is (e .verdict) (e .stop)) (e .holds))

@@ -104,24 +104,29 @@ reached-sound (insert {h} event w) = insert-call-sound (readEvent event) h (reac
 reached-sound (inc {h} w) = same-queue h _ refl refl refl (reached-sound w)
 reached-sound (reset {h} w) = same-queue h _ refl refl refl (reached-sound w)
 
--- a pump leaves a hub that steps reach
-pub run-reached : (left : ℕ) (v : Verdict) (s : List ℕ) (p : Progress) → Reached (p .hub) → Reached (runOf left v s p .pumped .hub)
-unfolding runOf stepped steppedBy
-run-reached zero going s p w = w
-run-reached zero (stopping why) s p w = w
-run-reached zero (refusing number) s p w = w
-run-reached (suc left) going s p w =
-    run-reached left (verdictOf left s (stepped s p)) s (stepped s p) (step (lookedOf (p .hub .waiting) s (p .at)) w)
-run-reached (suc left) (stopping why) s p w = w
-run-reached (suc left) (refusing number) s p w = w
+-- what every step keeps, a pump keeps
+module _ (P : Hub → Type 0) (keeps : (h : Hub) (l : Looked) → P h → P (stepHub h l)) where
+  run-keeps : (left : ℕ) (v : Verdict) (s : List ℕ) (p : Progress) → P (p .hub) → P (runOf left v s p .pumped .hub)
+  unfolding runOf stepped steppedBy
+  run-keeps zero going s p w = w
+  run-keeps zero (stopping why) s p w = w
+  run-keeps zero (refusing number) s p w = w
+  run-keeps (suc left) going s p w =
+      run-keeps left (verdictOf left s (stepped s p)) s (stepped s p) (keeps (p .hub) (lookedOf (p .hub .waiting) s (p .at)) w)
+  run-keeps (suc left) (stopping why) s p w = w
+  run-keeps (suc left) (refusing number) s p w = w
 
-pump-by-reached : (number : ℕ) (h : Hub) (s : List ℕ) (place : ℕ) (out : List ℕ) (allowance : ℕ) → Reached h → Reached (pumpBy number h s place out allowance .pumped .hub)
-pump-by-reached zero h s place out allowance w = run-reached allowance (verdictOf allowance s (startOf h place out)) s (startOf h place out) w
-pump-by-reached (suc number) h s place out allowance w = w
+  pump-by-keeps : (number : ℕ) (h : Hub) (s : List ℕ) (place : ℕ) (out : List ℕ) (allowance : ℕ) → P h → P (pumpBy number h s place out allowance .pumped .hub)
+  pump-by-keeps zero h s place out allowance w = run-keeps allowance (verdictOf allowance s (startOf h place out)) s (startOf h place out) w
+  pump-by-keeps (suc number) h s place out allowance w = w
 
+  pub pump-keeps : (h : Hub) (s : List ℕ) (place : ℕ) (out : List ℕ) (allowance : ℕ) → P h → P (pumpOf h s place out allowance .pumped .hub)
+  unfolding pumpOf
+  pump-keeps h s place out allowance w = pump-by-keeps (pumpRefusal (length s) (length out) place) h s place out allowance w
+
+-- so it leaves a hub that steps reach
 pub pump-reached : (h : Hub) (s : List ℕ) (place : ℕ) (out : List ℕ) (allowance : ℕ) → Reached h → Reached (pumpOf h s place out allowance .pumped .hub)
-unfolding pumpOf
-pump-reached h s place out allowance w = pump-by-reached (pumpRefusal (length s) (length out) place) h s place out allowance w
+pump-reached h s place out allowance w = pump-keeps Reached (λ g l x. step l x) h s place out allowance w
 
 -- ---- 01's sentences
 

@@ -79,7 +79,7 @@ module _ {h : Hub} (w : Reached h) (p : ℕ) (short : p < h .pads) (c : ℕ) whe
       let sheet = sheet-of w p short in
       let own = place-stands (h .codes) p c (ltb-true (placeIn h p c) nowhere e) .own in
       let q : placesPerPad * p + (placeIn h p c - placesPerPad * p) ≡ placeIn h p c = omega arith in
-      subst (Axis h) q (kept-axis h p (sheet .sheet) (sheet .taken) (sheet .keeps) (placeIn h p c - placesPerPad * p) (omega arith)
+      subst (Axis h) q (kept-axis h p (sheet .sheet) (sheet .kept .taken) (sheet .kept .keeps) (placeIn h p c - placesPerPad * p) (omega arith)
       (subst (λ (k : ℕ). kindAt h k ≡ elementAxis) (sym q) kind))
   found-by false e kind =
       let past = ltb-false (placeIn h p c) nowhere e in

@@ -48,7 +48,7 @@ pub record Sized (h : Hub) : Type 0 where
 -- ---- a column
 
 -- inside a list it does not matter what stands past its end
-inside-any : {A : Type 0} (l : List A) (j : ℕ) (d e : A) → j < length l → getD l j d ≡ getD l j e
+pub inside-any : {A : Type 0} (l : List A) (j : ℕ) (d e : A) → j < length l → getD l j d ≡ getD l j e
 inside-any [] j d e short = absurd (omega arith)
 inside-any (x ∷ xs) zero d e short = refl
 inside-any (x ∷ xs) (suc j) d e short = inside-any xs j d e (omega arith)

@@ -4,6 +4,7 @@ pub mod Columns
 pub mod Found
 pub mod Directions
 pub mod Unlisted
+pub mod Listing
 pub mod Converts
 pub mod Pads
 pub mod Axes

@@ -30,12 +30,16 @@ use Rattle.registered.specs.Directions.{direction-found}
 use Rattle.registered.specs.Unlisted.{Foreign, not-found}
 use Rattle.registered.specs.Converts.{SamePlaces, converts-same}
 
--- a pad with the sheet that it was registered with
-pub record Sheet (h : Hub) (p : ℕ) : Type 0 where
-  pub sheet : List ℕ
+-- a pad that was registered with this sheet
+pub record Kept (h : Hub) (p : ℕ) (sheet : List ℕ) : Type 0 where
   pub taken : sheetRefusal sheet ≡ 0
   pub keeps : Keeps h p sheet
   pub converts : getD (h .converts) p false ≡ convertsOf (hatsOf sheet) (h .codes) (h .names) p
+
+-- with some sheet
+pub record Sheet (h : Hub) (p : ℕ) : Type 0 where
+  pub sheet : List ℕ
+  pub kept : Kept h p sheet
 
 pub record Desk (h : Hub) : Type 0 where
   pub sized : Sized h
@@ -45,7 +49,7 @@ pub record Desk (h : Hub) : Type 0 where
 -- ---- calls that leave the sheets alone
 
 -- the columns of two hubs are the same
-record Alike (h g : Hub) : Type 0 where
+pub record Alike (h g : Hub) : Type 0 where
   pub pads : g .pads ≡ h .pads
   pub codes : g .codes ≡ h .codes
   pub kinds : g .kinds ≡ h .kinds
@@ -66,6 +70,10 @@ alike-keeps h g p s a k =
       hats = rw (a .hats) (k .hats);
     }
 
+pub alike-kept : (h g : Hub) (p : ℕ) (s : List ℕ) → Alike h g → Kept h p s → Kept g p s
+alike-kept h g p s a k =
+    record { taken = k .taken; keeps = alike-keeps h g p s a (k .keeps); converts = rw (a .converts, a .codes, a .names) (k .converts) }
+
 alike : (h g : Hub) → Alike h g → Desk h → Desk g
 alike h g a d =
     record {
@@ -83,16 +91,29 @@ alike h g a d =
       sheets =
           λ p short.
           let w = d .sheets p (rw (a .pads) at short) in
-          record {
-            sheet = w .sheet;
-            taken = w .taken;
-            keeps = alike-keeps h g p (w .sheet) a (w .keeps);
-            converts = rw (a .converts, a .codes, a .names) (w .converts);
-          };
+          record { sheet = w .sheet; kept = alike-kept h g p (w .sheet) a (w .kept) };
     }
 
-abbrev same : (h g : Hub) → g .pads ≡ h .pads → g .codes ≡ h .codes → g .kinds ≡ h .kinds → g .names ≡ h .names → g .elements ≡ h .elements → g .counts ≡ h .counts → g .hats ≡ h .hats → g .converts ≡ h .converts → Desk h → Desk g
-same h g a b c d e f i j = alike h g (record { pads = a; codes = b; kinds = c; names = d; elements = e; counts = f; hats = i; converts = j })
+abbrev alike-by : (h g : Hub) → g .pads ≡ h .pads → g .codes ≡ h .codes → g .kinds ≡ h .kinds → g .names ≡ h .names → g .elements ≡ h .elements
+    → g .counts ≡ h .counts → g .hats ≡ h .hats → g .converts ≡ h .converts → Alike h g
+alike-by h g a b c d e f i j = record { pads = a; codes = b; kinds = c; names = d; elements = e; counts = f; hats = i; converts = j }
+
+pub step-alike : (h : Hub) (l : Looked) → Alike h (stepHub h l)
+unfolding stepHub updatedOf updatedAt turnedOf pushedOf markedOf
+step-alike h l = alike-by h _ refl refl refl refl refl refl refl refl
+
+pub form-alike : (number : ℕ) (h : Hub) (f : EventForm) → Alike h (updateFormBy number h f .hub)
+unfolding updatedOf updatedAt
+form-alike zero h f = alike-by h _ refl refl refl refl refl refl refl refl
+form-alike (suc number) h f = alike-by h _ refl refl refl refl refl refl refl refl
+
+pub update-alike : (r : EventRead) (h : Hub) → Alike h (updateBy r h .hub)
+update-alike (eventRead.Form f) h = form-alike (formRefusal f (h .pads) (formPlace h f)) h f
+update-alike eventRead.Malformed h = alike-by h _ refl refl refl refl refl refl refl refl
+
+pub counted-alike : (h : Hub) (n : ℕ) → Alike h (countedAt h n)
+unfolding countedAt
+counted-alike h n = alike-by h _ refl refl refl refl refl refl refl refl
 
 -- ---- each call
 
@@ -110,81 +131,70 @@ unfolding idleHub
 new-desk zero h d = d
 new-desk (suc number) h d = fresh-desk _ _ _ _ _
 
-module _ (h : Hub) (s : List ℕ) (d : Desk h) where
+module _ (h : Hub) (s : List ℕ) (d : Desk h) (taken : registerRefusal (h .pads) s ≡ 0) where
   -- the next pad has the sheet that it is given
-  next-sheet : registerRefusal (h .pads) s ≡ 0 → Sheet (registerBy 0 h s .hub) (h .pads)
+  pub next-kept : Kept (registerBy 0 h s .hub) (h .pads) s
   unfolding registeredAt
-  next-sheet taken =
+  next-kept =
       let stands = accepted (h .pads) s taken .0 in
       record {
-        sheet = s;
         taken = accepted (h .pads) s taken .1;
         keeps = register-keeps h s (d .sized) stands;
         converts = getD-set-same (h .converts) (h .pads) _ false (rw (d .sized .converts) stands);
       }
 
   -- a pad before it keeps its own
-  old-sheet : registerRefusal (h .pads) s ≡ 0 → (p : ℕ) → p < h .pads → Sheet (registerBy 0 h s .hub) p
+  pub old-kept : (p : ℕ) → p < h .pads → (t : List ℕ) → Kept h p t → Kept (registerBy 0 h s .hub) p t
   unfolding registeredAt
-  old-sheet taken p old =
+  old-kept p old t w =
       let few = accepted (h .pads) s taken .0 in
-      let w = d .sheets p old in
       let other : p ≡ h .pads → ⊥ = λ e. omega arith in
-      let keeps = register-others h s (d .sized) few p (w .sheet) old (w .keeps) in
+      let keeps = register-others h s (d .sized) few p t old (w .keeps) in
       let codes : SamePlaces (h .codes) (registeredAt h (h .pads) (hatsOf s) (countOf s) (rowsOf s (countOf s)) .codes) p =
       record { at = λ j past from to. sym (laid-places (h .codes) (map rowCode (rowsOf s (countOf s))) p (h .pads) j past old to) } in
       let names : SamePlaces (h .names) (registeredAt h (h .pads) (hatsOf s) (countOf s) (rowsOf s (countOf s)) .names) p =
       record { at = λ j past from to. sym (laid-places (h .names) (map rowName (rowsOf s (countOf s))) p (h .pads) j past old to) } in
       record {
-        sheet = w .sheet;
         taken = w .taken;
         keeps = keeps;
         converts =
             getD-set-other (h .converts) (h .pads) p _ false other
             ∙ (w .converts
-            ∙ converts-same (h .codes) _ (h .names) _ p (omega arith) (keeps-rise h p (w .sheet) (w .taken) (w .keeps))
-            (keeps-rise (registerBy 0 h s .hub) p (w .sheet) (w .taken) keeps) codes names (d .sized .names) (register-sized h s (d .sized) .names)
-            (hatsOf (w .sheet)));
+            ∙ converts-same (h .codes) _ (h .names) _ p (omega arith) (keeps-rise h p t (w .taken) (w .keeps))
+            (keeps-rise (registerBy 0 h s .hub) p t (w .taken) keeps) codes names (d .sized .names) (register-sized h s (d .sized) .names) (hatsOf t));
       }
 
-  sheet-by : registerRefusal (h .pads) s ≡ 0 → (p : ℕ) (older : Bool) → ltb p (h .pads) ≡ older → p < h .pads + 1 → Sheet (registerBy 0 h s .hub) p
-  sheet-by taken p true e short = old-sheet taken p (ltb-true p (h .pads) e)
-  sheet-by taken p false e short =
+  sheet-by : (p : ℕ) (older : Bool) → ltb p (h .pads) ≡ older → p < h .pads + 1 → Sheet (registerBy 0 h s .hub) p
+  sheet-by p true e short =
+      let old = ltb-true p (h .pads) e in
+      let w = d .sheets p old in
+      record { sheet = w .sheet; kept = old-kept p old (w .sheet) (w .kept) }
+  sheet-by p false e short =
       let past = ltb-false p (h .pads) e in
       let own : h .pads ≡ p = omega arith in
-      subst (λ (q : ℕ). Sheet (registerBy 0 h s .hub) q) own (next-sheet taken)
+      subst (λ (q : ℕ). Sheet (registerBy 0 h s .hub) q) own (record { sheet = s; kept = next-kept })
 
-  register-desk : (number : ℕ) → registerRefusal (h .pads) s ≡ number → Desk (registerBy number h s .hub)
-  register-desk zero e =
-      let few = accepted (h .pads) s e .0 in
+  taken-desk : Desk (registerBy 0 h s .hub)
+  taken-desk =
+      let few = accepted (h .pads) s taken .0 in
       record {
         sized = register-sized h s (d .sized);
         few = unfold registeredAt in omega arith;
-        sheets = λ p short. sheet-by e p (ltb p (h .pads)) refl (unfold registeredAt in short);
+        sheets = λ p short. sheet-by p (ltb p (h .pads)) refl (unfold registeredAt in short);
       }
-  register-desk (suc number) e = d
+
+register-desk : (h : Hub) (s : List ℕ) → Desk h → (number : ℕ) → registerRefusal (h .pads) s ≡ number → Desk (registerBy number h s .hub)
+register-desk h s d zero e = taken-desk h s d e
+register-desk h s d (suc number) e = d
 
 rename-desk : (number : ℕ) (h : Hub) (pad : ℕ) (list : List ℕ) → Desk h → Desk (renameBy number h pad list .hub)
 unfolding renamedAt
-rename-desk zero h pad list d = same h _ refl refl refl refl refl refl refl refl d
+rename-desk zero h pad list d = alike h _ (alike-by h _ refl refl refl refl refl refl refl refl) d
 rename-desk (suc number) h pad list d = d
-
-step-desk : (h : Hub) (l : Looked) → Desk h → Desk (stepHub h l)
-unfolding stepHub updatedOf updatedAt turnedOf pushedOf markedOf
-step-desk h l d = same h _ refl refl refl refl refl refl refl refl d
-
-update-form-desk : (number : ℕ) (h : Hub) (f : EventForm) → Desk h → Desk (updateFormBy number h f .hub)
-unfolding updatedOf updatedAt
-update-form-desk zero h f d = same h _ refl refl refl refl refl refl refl refl d
-update-form-desk (suc number) h f d = d
-
-update-desk : (r : EventRead) (h : Hub) → Desk h → Desk (updateBy r h .hub)
-update-desk (eventRead.Form f) h d = update-form-desk (formRefusal f (h .pads) (formPlace h f)) h f d
-update-desk eventRead.Malformed h d = d
 
 insert-form-desk : (number : ℕ) (h : Hub) (f : EventForm) → Desk h → Desk (insertFormBy number h f .hub)
 unfolding insertedAt
-insert-form-desk zero h f d = same h _ refl refl refl refl refl refl refl refl d
+insert-form-desk zero h f d = alike h _ (alike-by h _ refl refl refl refl refl refl refl refl) d
 insert-form-desk (suc number) h f d = d
 
 insert-desk : (r : EventRead) (h : Hub) → Desk h → Desk (insertBy r h .hub)
@@ -199,11 +209,11 @@ reached-desk (new pressed released reversed filters updates) =
     new-desk (thresholdsRefusal pressed released) _ (fresh-desk pressed released reversed filters updates)
 reached-desk (register {h} sheet w) = register-desk h sheet (reached-desk w) (registerRefusal (h .pads) sheet) refl
 reached-desk (rename {h} pad list w) = rename-desk (renameRefusal h pad list) h pad list (reached-desk w)
-reached-desk (step {h} l w) = step-desk h l (reached-desk w)
-reached-desk (update {h} event w) = update-desk (readEvent event) h (reached-desk w)
+reached-desk (step {h} l w) = alike h _ (step-alike h l) (reached-desk w)
+reached-desk (update {h} event w) = alike h _ (update-alike (readEvent event) h) (reached-desk w)
 reached-desk (insert {h} event w) = insert-desk (readEvent event) h (reached-desk w)
-reached-desk (inc {h} w) = same h _ refl refl refl refl refl refl refl refl (reached-desk w)
-reached-desk (reset {h} w) = same h _ refl refl refl refl refl refl refl refl (reached-desk w)
+reached-desk (inc {h} w) = alike h _ (counted-alike h _) (reached-desk w)
+reached-desk (reset {h} w) = alike h _ (counted-alike h 0) (reached-desk w)
 
 module _ {h : Hub} (w : Reached h) (p : ℕ) (short : p < h .pads) where
   pub four-pads : h .pads ≤ padLimit
@@ -219,7 +229,7 @@ module _ {h : Hub} (w : Reached h) (p : ℕ) (short : p < h .pads) where
 
   -- a registered pad's codes do not fall
   pub never-falls : NeverFalls (h .codes) p
-  never-falls = keeps-rise h p (sheet-of .sheet) (sheet-of .taken) (sheet-of .keeps)
+  never-falls = keeps-rise h p (sheet-of .sheet) (sheet-of .kept .taken) (sheet-of .kept .keeps)
 
   -- so the halving search is the plain scan
   pub lookup-is-scan : (c : ℕ) → placeOf (h .codes) p c ≡ scanOf (h .codes) placesPerPad (placesPerPad * p) c
@@ -227,12 +237,12 @@ module _ {h : Hub} (w : Reached h) (p : ℕ) (short : p < h .pads) where
 
   -- and each element that the sheet lists is found, with its kind, its name and what is kept of its limits
   pub element-kept : (e : ℕ) → e < countOf (sheet-of .sheet) → Listed h p (elementOf (sheet-of .sheet) e)
-  element-kept e inside = listed h p (sheet-of .sheet) stands (sheet-of .taken) (sheet-of .keeps) e inside
+  element-kept e inside = listed h p (sheet-of .sheet) stands (sheet-of .kept .taken) (sheet-of .kept .keeps) e inside
 
   -- so is each direction, listed or not
   pub direction-kept : (d : ℕ) → d < directions → placeOf (h .codes) p (codeUp + d) < nowhere
-  direction-kept d few = direction-found h p (sheet-of .sheet) stands (sheet-of .taken) (sheet-of .keeps) d few
+  direction-kept d few = direction-found h p (sheet-of .sheet) stands (sheet-of .kept .taken) (sheet-of .kept .keeps) d few
 
   -- while a code that is neither listed nor a direction's is not
   pub foreign-absent : (c : ℕ) → Foreign (sheet-of .sheet) c → placeOf (h .codes) p c ≡ nowhere
-  foreign-absent c foreign = not-found (sheet-of .sheet) c foreign h p stands (sheet-of .taken) (sheet-of .keeps)
+  foreign-absent c foreign = not-found (sheet-of .sheet) c foreign h p stands (sheet-of .kept .taken) (sheet-of .kept .keeps)
