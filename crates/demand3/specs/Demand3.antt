@@ -29,7 +29,7 @@ use Rattle.rules.specs.Repeat.{repeatOf}
 use Rattle.rules.specs.Calls.{newOf, registerOf, updateOf, incOf, resetOf}
 use Rattle.rules.specs.Queries.{pressedByCode}
 use Rattle.promises.specs.Machines.{Machine, said, placeSaid, eventsSaid, stepsSaid}
-use Rattle.history.specs.Rule.{recordsFrom, Reading, Reads, nothing, held, isDirection, buttonReads, triggerReads, hatValue}
+use Rattle.history.specs.Rule.{Bytes, recordsFrom, Reading, Reads, nothing, held, isDirection, buttonReads, triggerReads, hatValue}
 
 -- ---- what is called
 
@@ -59,7 +59,7 @@ goesOn s (c ∷ cs) = goesOn (s then c) cs
 
 -- the settings are not refused, and a sheet is bytes
 abbrev pub Lends : Call → Type 0
-Lends (register sheet) = (i : ℕ) → getD sheet i 0 < 256
+Lends (register sheet) = Bytes sheet
 Lends (pump batch place out allowance) = Unit
 Lends inc = Unit
 Lends reset = Unit

@@ -29,8 +29,10 @@ use Rattle.history.specs.Rule.{recordsFrom}
 use Rattle.history.specs.Played as played
 use Rattle.history.specs.Played.{Played, reached}
 use Rattle.history.specs.Pumps.{Took, pump-took}
+use Rattle.history.specs.Small.{Small, new-small, register-small, pump-small, update-small, counted-small}
+use Rattle.history.specs.Repeated.{repeats}
 use Rattle.history.specs.Sorts.{Same, step-same, counted-same}
-use Rattle.history.specs.Codes.{form-same}
+use Rattle.history.specs.Kept.{form-same}
 use Rattle.demand3.specs.Demand3.{Settings, register, pump, inc, reset, repeat, Script, new, _then_, Allowed, fedBack, play, settingsOf, takenBy, recordsOf, Sheet, sheetRead, acceptedBy, sheetsOf, noSheet}
 
 -- ---- records
@@ -45,6 +47,31 @@ pump-played h rs batch place out allowance w =
     let t = pump-took h batch place out allowance rs w in
     subst (λ (n : ℕ). Played (pumpOf h batch place out allowance .pumped .hub) (recordsFrom n batch place rs)) (sym (counted place (t .count) _ (t .place))) (t .played)
 
+-- ---- codes of four bytes, so that a repeat's event reads back
+
+fed-small : (a : RepeatAnswer) (h : Hub) → Small h → Small (fedBack a h)
+fed-small (repeatAnswer.Due e) h w = update-small h (eventBytes e) w
+fed-small repeatAnswer.Quiet h w = w
+fed-small (repeatAnswer.Refused number) h w = w
+
+script-small : (s : Script) → Allowed s → Small (play pumpOf s)
+unfolding play incOf resetOf
+script-small (new t) ok = new-small (t .pressed) (t .released) (t .reversed) true true
+script-small (s then register sheet) ok = register-small (play pumpOf s) sheet (ok .1) (script-small s (ok .0))
+script-small (s then pump batch place out allowance) ok = pump-small (play pumpOf s) batch place out allowance (script-small s (ok .0))
+script-small (s then inc) ok = counted-small (play pumpOf s) _ (script-small s (ok .0))
+script-small (s then reset) ok = counted-small (play pumpOf s) 0 (script-small s (ok .0))
+script-small (s then repeat after every clock true) ok = fed-small (repeatOf (play pumpOf s) after every clock) (play pumpOf s) (script-small s (ok .0))
+script-small (s then repeat after every clock false) ok = script-small s (ok .0)
+
+-- ---- played
+
+fed-played : (h : Hub) (rs : List RawRecord) (after every clock : ℕ) (a : RepeatAnswer) → repeatOf h after every clock ≡ a → Small h → Played h rs
+    → Played (fedBack a h) rs
+fed-played h rs after every clock (repeatAnswer.Due e) is small w = played.repeat (eventBytes e) (repeats w small after every clock e is) w
+fed-played h rs after every clock repeatAnswer.Quiet is small w = w
+fed-played h rs after every clock (repeatAnswer.Refused number) is small w = w
+
 pub script-played : (s : Script) → Allowed s → Played (play pumpOf s) (recordsOf pumpOf s)
 unfolding play recordsOf
 script-played (new t) ok = played.fresh (t .pressed) (t .released) (t .reversed) ok
@@ -52,7 +79,8 @@ script-played (s then register sheet) ok = played.register sheet (script-played 
 script-played (s then pump batch place out allowance) ok = pump-played (play pumpOf s) (recordsOf pumpOf s) batch place out allowance (script-played s (ok .0))
 script-played (s then inc) ok = played.inc (script-played s (ok .0))
 script-played (s then reset) ok = played.reset (script-played s (ok .0))
-script-played (s then repeat after every clock true) ok = ?
+script-played (s then repeat after every clock true) ok =
+    fed-played (play pumpOf s) (recordsOf pumpOf s) after every clock (repeatOf (play pumpOf s) after every clock) refl (script-small s (ok .0)) (script-played s (ok .0))
 script-played (s then repeat after every clock false) ok = script-played s (ok .0)
 
 pub script-desk : (s : Script) → Allowed s → Desk (play pumpOf s)

@@ -21,7 +21,7 @@ use Rattle.rules.specs.Pump.{Run, pumpOf}
 use Rattle.rules.specs.Calls.{newOf, registerOf}
 use Rattle.rules.specs.Queries.{pressedByCode}
 use Rattle.promises.specs.Machines.{Machine, sheet, move, said, eventsSaid, stepsSaid}
-use Rattle.history.specs.Rule.{recordsFrom, Reading, held}
+use Rattle.history.specs.Rule.{byteLimit, Bytes, recordsFrom, Reading, held}
 use Rattle.history.specs.Truth.{true-false}
 use Rattle.demand3.specs.Demand3.{Script, Allowed, play, settingsOf, recordsOf, sheetRead, sheetsOf, noSheet, says, ruleReads, Demand3}
 use Rattle.demand3.specs.Example.{padlog, pushed, example, moved, rule-right, rule-pushed}
@@ -30,7 +30,7 @@ use Rattle.demand3.specs.Example.{padlog, pushed, example, moved, rule-r
 
 below : List ℕ → Bool
 below [] = true
-below (b ∷ bs) = ltb b 256 && below bs
+below (b ∷ bs) = ltb b byteLimit && below bs
 
 first : (a b : Bool) → (a && b) ≡ true → a ≡ true
 first true b e = refl
@@ -40,11 +40,11 @@ second : (a b : Bool) → (a && b) ≡ true → b ≡ true
 second true b e = e
 second false b e = true-false (sym e)
 
-bytes : (s : List ℕ) → below s ≡ true → (i : ℕ) → getD s i 0 < 256
+bytes : (s : List ℕ) → below s ≡ true → Bytes s
 unfolding below
 bytes [] e i = omega arith
-bytes (b ∷ bs) e zero = ltb-true b 256 (first (ltb b 256) (below bs) e)
-bytes (b ∷ bs) e (suc i) = bytes bs (second (ltb b 256) (below bs) e) i
+bytes (b ∷ bs) e zero = ltb-true b byteLimit (first (ltb b byteLimit) (below bs) e)
+bytes (b ∷ bs) e (suc i) = bytes bs (second (ltb b byteLimit) (below bs) e) i
 
 -- ---- the machines
 

@@ -15,14 +15,14 @@ use Rattle.rules.specs.Refusals.{standsOf, elementRefusal, first, unlessFits, f
 use Rattle.rules.specs.Step.{recordKind}
 use Rattle.history.specs.Steps.{lookAt}
 
-first-zero : (a b : ℕ) → first a b ≡ 0 → (a ≡ 0) × (b ≡ 0)
+pub first-zero : (a b : ℕ) → first a b ≡ 0 → (a ≡ 0) × (b ≡ 0)
 first-zero a b e = by (eqb a 0) refl e
   where
     by : (none : Bool) → eqb a 0 ≡ none → cond none b a ≡ 0 → (a ≡ 0) × (b ≡ 0)
     by true n z = (eqb-true a 0 n, z)
     by false n z = absurd (eqb-false a 0 n z)
 
-fits-zero : (fits : Bool) (number : ℕ) → 0 < number → unlessFits fits number ≡ 0 → fits ≡ true
+pub fits-zero : (fits : Bool) (number : ℕ) → 0 < number → unlessFits fits number ≡ 0 → fits ≡ true
 fits-zero true number some e = refl
 fits-zero false number some e = absurd (omega arith)
 

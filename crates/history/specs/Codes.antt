@@ -1,51 +1,47 @@
 -- Buttons and triggers, whatever is played: what a code's place tells is what the rule says of the records that were taken. By induction on the calls.
 -- Assumes nothing.
-use Prim.Native.Nat.{ℕ, zero, suc, _<_, _≤_}
-use mathlib.Core.Bool.{Bool, true, false, cond}
+use Prim.Native.Nat.{ℕ, _<_}
+use mathlib.Core.Bool.{Bool, true, false}
 use mathlib.Core.List.{List, [], _∷_}
 use mathlib.Core.Path.{_≡_, refl, sym, _∙_, ap, subst}
-use lib.Dec.{eqb, ltb}
 use lib.Ieee.{Float, le}
 use lib.ListN.{getD}
 use native.Mathlib.Omega.{arith}
-use borrow.Author.Tests.{ltb-true, ltb-false, ne-eqb}
+use borrow.Author.Tests.{ne-eqb}
 use Rattle.numbers.specs.Constants.{zero32}
 use Rattle.numbers.specs.Scale.{buttonScaledOf}
 use Rattle.numbers.specs.Deadzone.{deadzoneOf}
 use Rattle.rules.specs.declared.Hub.{Hub}
-use Rattle.rules.specs.declared.EventForm.{EventForm}
+use Rattle.rules.specs.declared.EventType.the-variants.{Repeated}
 use Rattle.rules.specs.declared.Element.{Element}
 use Rattle.rules.specs.declared.RawRecord.{RawRecord}
 use Rattle.rules.specs.Names.{nowhere}
-use Rattle.rules.specs.Sheets.{elementAxis, elementButton}
-use Rattle.rules.specs.Forms.{kindAxis}
+use Rattle.rules.specs.Sheets.{elementAxis}
 use Rattle.rules.specs.Places.{placeOf}
-use Rattle.rules.specs.Refusals.{thresholdsRefusal}
-use Rattle.rules.specs.Events.{formEvent}
-use Rattle.rules.specs.State.{nextCounter}
 use Rattle.rules.specs.Hub.{elementAt}
-use Rattle.rules.specs.Step.{recordKind, updatedOf, updatedAt, stepHub}
-use Rattle.rules.specs.Calls.{freshHub, newBy, newOf, registerRefusal, registeredAt, registerBy, registerOf, updateFormBy, countedAt, incOf, resetOf}
+use Rattle.rules.specs.Step.{recordKind, updatedOf, stepHub}
+use Rattle.rules.specs.Calls.{countedAt}
 use Rattle.promises.specs.Waiting.{waitingList}
 use Rattle.promises.specs.Reach.{Reached, reached-sound}
 use Rattle.signs.specs.Proper.{Proper, proper-eq, zero-proper, one-proper}
 use Rattle.registered.specs.Pads.{Desk, reached-desk}
 use Rattle.registered.specs.Triggers.{trigger-zoned}
-use Rattle.history.specs.Rule.{Reading, nothing, held, rejoins, concerns, buttonReads, triggerAfter, triggerReads}
+use Rattle.history.specs.Rule.{Reading, nothing, rejoins, concerns, buttonReads, triggerAfter, triggerReads}
 use Rattle.history.specs.Cells.{cellAt}
+use Rattle.history.specs.Turns.{ev}
 use Rattle.history.specs.Steps.{Ready, look, lookAt}
-use Rattle.history.specs.Waits.{sheetOf, zonedAt, more}
+use Rattle.history.specs.Waits.{sheetOf, zonedAt}
 use Rattle.history.specs.Served.{value}
 use Rattle.history.specs.Serve.{Tells, serve-tells}
-use Rattle.history.specs.Accepted.{Good, good}
+use Rattle.history.specs.Accepted.{Good}
 use Rattle.history.specs.Own.{folded}
-use Rattle.history.specs.Records.{Place, rejoined, unconcerned}
-use Rattle.history.specs.Concerned.{Concerns, concerned, button-taken, trigger-taken, spoken-small}
-use Rattle.history.specs.Played.{Played, Repeats, fresh, register, take, serve, inc, reset, repeat, reached, ready, refusal, update-is}
-use Rattle.history.specs.Register.{next, pads-are}
+use Rattle.history.specs.Records.{Place, foreign-joins, rejoined, unconcerned}
+use Rattle.history.specs.Concerned.{Concerns, concerned, button-taken, trigger-taken, spoken-listed}
+use Rattle.history.specs.Played.{Played, reached, ready}
+use Rattle.history.specs.Kept.{grown, Keeps, kept, unseen}
 use Rattle.history.specs.Sorts.{Sort, button, silent, trigger, readsOf, Is, Same, same-place, place-back, is-back, step-same, counted-same, update-same, old-back, old-is}
 use Rattle.history.specs.Tidy.{tidy}
-use Rattle.history.specs.Fed.{form-told}
+use Rattle.history.specs.Fed.{repeat-told}
 use Rattle.history.specs.Grown.{old-tells, new-tells}
 
 -- what a place of the hub tells
@@ -54,17 +50,10 @@ Tell h k x = Tells Proper proper-eq (sheetOf h) h k (waitingList h) (x .pressed)
 
 -- ---- readings
 
--- a record of another pad is none of this one's
-module _ (r : RawRecord) (p : ℕ) (other : r .pad ≡ p → ⊥) where
-  pub foreign-joins : rejoins p r ≡ false
-  unfolding rejoins
-  foreign-joins = rw (ne-eqb (r .pad) p other)
+foreign-concerns : (p c : ℕ) (r : RawRecord) → (r .pad ≡ p → ⊥) → concerns p c r ≡ false
+unfolding concerns
+foreign-concerns p c r other = rw (ne-eqb (r .pad) p other)
 
-  foreign-concerns : (c : ℕ) → concerns p c r ≡ false
-  unfolding concerns
-  foreign-concerns c = rw (ne-eqb (r .pad) p other)
-
--- before a pad is registered none of its records is taken
 reads-other : (t : Sort) (p c : ℕ) (r : RawRecord) (rs : List RawRecord) → rejoins p r ≡ false → concerns p c r ≡ false → readsOf t p c (r ∷ rs) ≡ readsOf t p c rs
 unfolding buttonReads triggerReads
 reads-other button p c r rs j e = rw (j, e)
@@ -83,35 +72,9 @@ reads-none button p c = refl
 reads-none silent p c = refl
 reads-none (trigger on off el) p c = refl
 
-pub register-more : (number : ℕ) (h : Hub) (s : List ℕ) → h .pads ≤ registerBy number h s .hub .pads
-unfolding registeredAt
-register-more zero h s = omega arith
-register-more (suc number) h s = omega arith
-
-pub form-pads : (number : ℕ) (h : Hub) (f : EventForm) → updateFormBy number h f .hub .pads ≡ h .pads
-unfolding updatedOf updatedAt
-form-pads zero h f = refl
-form-pads (suc number) h f = refl
-
-unseen : {h : Hub} {rs : List RawRecord} → Played h rs → (t : Sort) (p c : ℕ) → h .pads ≤ p → readsOf t p c rs ≡ nothing
-unfolding registerOf incOf resetOf countedAt
-unseen (fresh pressed released reversed ok) t p c past = reads-none t p c
-unseen (register {h} sheet w) t p c past =
-    let more = register-more (registerRefusal (h .pads) sheet) h sheet in
-    unseen w t p c (omega arith)
-unseen (take {h} {rs} r none ok w) t p c past =
-    let pads = step-same h (lookAt r) .pads in
-    let old = good h r ok .pad in
-    let other : r .pad ≡ p → ⊥ = λ e. omega arith in
-    reads-other t p c r rs (foreign-joins r p other) (foreign-concerns r p other c) ∙ unseen w t p c (omega arith)
-unseen (serve {h} some w) t p c past =
-    let pads = step-same h look .pads in
-    unseen w t p c (omega arith)
-unseen (inc w) t p c past = unseen w t p c past
-unseen (reset w) t p c past = unseen w t p c past
-unseen (repeat {h} bytes is w) t p c past =
-    let pads = ap (λ (g : Hub). g .pads) (update-is h bytes is) ∙ form-pads (refusal h bytes is) h (is .form) in
-    unseen w t p c (omega arith)
+-- a record of another pad is none of this one's
+reads-foreign : (t : Sort) (p c : ℕ) (r : RawRecord) (rs : List RawRecord) → (r .pad ≡ p → ⊥) → readsOf t p c (r ∷ rs) ≡ readsOf t p c rs
+reads-foreign t p c r rs other = reads-other t p c r rs (foreign-joins p r other) (foreign-concerns p c r other)
 
 -- ---- calls that take no record
 
@@ -160,11 +123,7 @@ module _ (h : Hub) (w : Ready h) (to : Reached h) (p c : ℕ) (pl : Place h p c)
   unlisted own none =
       let here : placeOf (h .codes) (r .pad) (r .code) ≡ k =
       ap (λ (q : ℕ). placeOf (h .codes) q (r .code)) (own .pad) ∙ ap (λ (d : ℕ). placeOf (h .codes) p d) (own .code) in
-      listed (eqb (r .kind) kindAxis) (sym (ok .element (spoken-small (r .kind) (own .spoken))) ∙ (ap (λ (i : ℕ). getD (h .kinds) i 0) here ∙ none))
-    where
-      listed : (value : Bool) → _≡_ {A = ℕ} (cond value elementAxis elementButton) 0 → ⊥
-      listed true e = omega arith
-      listed false e = omega arith
+      spoken-listed h r ok (own .spoken) (ap (λ (i : ℕ). getD (h .kinds) i 0) here ∙ none)
 
   own-by : (u : Sort) → Is u h k → Tell h k (readsOf u p c rs) → rejoins p r ≡ false → concerns p c r ≡ true → After (readsOf u p c (r ∷ rs))
   unfolding buttonReads
@@ -198,90 +157,56 @@ module _ (h : Hub) (w : Ready h) (to : Reached h) (p c : ℕ) (pl : Place h p c)
 
 -- ---- whatever is played
 
--- a hub with the same sheets has the code where it was
-moved-over : (h g : Hub) (a : Same h g) (p c : ℕ) (x : Reading) → Tell g (placeOf (h .codes) p c) x → Tell g (placeOf (g .codes) p c) x
-moved-over h g a p c x t = subst (λ (k : ℕ). Tell g k x) (sym (same-place h g a p c)) t
-
-pub form-same : (number : ℕ) (h : Hub) (f : EventForm) → Same h (updateFormBy number h f .hub)
-form-same zero h f = update-same h (formEvent f)
-form-same (suc number) h f =
-    record { pads = refl; codes = refl; kinds = refl; names = refl; elements = refl; converts = refl; pressed = refl; released = refl; reversed = refl }
-
-pub fresh-empty : (number : ℕ) (pressed released : Float) (reversed : Bool) (p c : ℕ) → number ≡ 0
-    → p < newBy number (freshHub pressed released reversed true true) .hub .pads → ⊥
-unfolding freshHub
-fresh-empty zero pressed released reversed p c e old = omega arith
-fresh-empty (suc number) pressed released reversed p c e old = omega arith
-
 module _ (p c : ℕ) (t : Sort) where
+  record On (h : Hub) : Type 0 where
+    pub place : Place h p c
+    pub is : Is t h (placeOf (h .codes) p c)
+
   abbrev Holds : Hub → List RawRecord → Type 0
-  Holds h rs = Place h p c → Is t h (placeOf (h .codes) p c) → Tell h (placeOf (h .codes) p c) (readsOf t p c rs)
+  Holds h rs = Tell h (placeOf (h .codes) p c) (readsOf t p c rs)
 
-  register-by : (number : ℕ) (h : Hub) (s : List ℕ) (rs : List RawRecord) → Played h rs → registerRefusal (h .pads) s ≡ number → Holds h rs
-      → Holds (registerBy number h s .hub) rs
-  register-by zero h s rs w ok told pl is = by (ltb p (h .pads)) refl
-    where
-      desk : Desk h
-      desk = reached-desk (reached w)
+  -- a hub with the same sheets has the code where it was
+  over : (h g : Hub) → Same h g → (x : Reading) → Tell g (placeOf (h .codes) p c) x → Tell g (placeOf (g .codes) p c) x
+  over h g a x told = subst (λ (k : ℕ). Tell g k x) (sym (same-place h g a p c)) told
 
-      new : p ≡ h .pads → Place (next h s desk ok) p c → Tell (next h s desk ok) (placeOf (next h s desk ok .codes) p c) (readsOf t p c rs)
-      new e pl =
-          subst (Tell (next h s desk ok) (placeOf (next h s desk ok .codes) p c)) (sym (unseen w t p c (omega arith)))
-          (subst (λ (q : ℕ). placeOf (next h s desk ok .codes) q c < nowhere → Tell (next h s desk ok) (placeOf (next h s desk ok .codes) q c) nothing) (sym e)
-          (λ found. new-tells Proper proper-eq zero-proper h s desk ok c found (ready w .long) (tidy w)) (pl .found))
+  keeps : Keeps p On Holds
+  keeps =
+      record {
+        pad = λ h on. on .place .pad;
+        back = λ h g a on. record { place = place-back h g a p c (on .place); is = is-back h g a p c t (on .is) };
+        before =
+            λ h rs w s ok old on.
+            let desk = reached-desk (reached w) in
+            let place = old-back h s desk ok p c old (on .place) in
+            record { place = place; is = old-is h s desk ok p c old t (place .found) (on .is) };
+        newer =
+            λ h rs w s ok last on.
+            subst (Tell (grown h s) (placeOf (grown h s .codes) p c)) (sym (unseen p (readsOf t p c) (reads-foreign t p c) w (omega arith) ∙ reads-none t p c))
+            (subst (λ (q : ℕ). placeOf (grown h s .codes) q c < nowhere → Tell (grown h s) (placeOf (grown h s .codes) q c) nothing) (sym last)
+            (λ found. new-tells Proper proper-eq zero-proper h s (reached-desk (reached w)) ok c found (ready w .long) (tidy w)) (on .place .found));
+        older =
+            λ h rs w s ok old on told.
+            old-tells Proper proper-eq zero-proper h s (reached-desk (reached w)) ok p c old (on .place .found) (readsOf t p c rs .pressed) (readsOf t p c rs .value)
+            told;
+        takes =
+            λ h rs w r none ok on told.
+            over h (stepHub h (lookAt r)) (step-same h (lookAt r)) (readsOf t p c (r ∷ rs))
+            (taken-tells h (ready w) (reached w) p c (on .place) t (on .is) r ok none rs told);
+        serves =
+            λ h rs w some on told.
+            over h (stepHub h look) (step-same h look) (readsOf t p c rs)
+            (serve-tells Proper proper-eq h (ready w) (reached-desk (reached w)) (reached-sound (reached w)) some (placeOf (h .codes) p c) (on .place .found)
+            (on .place .bare) (readsOf t p c rs .pressed) (readsOf t p c rs .value) told);
+        counts =
+            λ h rs m told.
+            over h (countedAt h m) (counted-same h m) (readsOf t p c rs) (counted-tells h m (placeOf (h .codes) p c) (readsOf t p c rs) told);
+        repeats =
+            λ h rs w pad time m d down on told.
+            let e = ev pad time (Repeated m d) in
+            over h (updatedOf true h e) (update-same h e) (readsOf t p c rs)
+            (repeat-told Proper proper-eq h (ready w) (placeOf (h .codes) p c) (on .place .found) (readsOf t p c rs .pressed) (readsOf t p c rs .value) pad time m d
+            down told);
+      }
 
-      by : (older : Bool) → ltb p (h .pads) ≡ older → Tell (registerBy 0 h s .hub) (placeOf (registerBy 0 h s .hub .codes) p c) (readsOf t p c rs)
-      by true l =
-          let old = ltb-true p (h .pads) l in
-          let before = old-back h s desk ok p c old pl in
-          old-tells Proper proper-eq zero-proper h s desk ok p c old (before .found) (readsOf t p c rs .pressed) (readsOf t p c rs .value)
-          (told before (old-is h s desk ok p c old t (before .found) is))
-      by false l =
-          let past = ltb-false p (h .pads) l in
-          let inside = pl .pad in
-          let last : p ≡ h .pads = omega (arith, pads-are h s desk ok) in
-          new last pl
-  register-by (suc number) h s rs w ok told pl is = told pl is
-
-  repeat-by : (h : Hub) (rs : List RawRecord) → Played h rs → (bytes : List ℕ) (fed : Repeats h bytes) → Holds h rs
-      → Holds (updateFormBy (refusal h bytes fed) h (fed .form) .hub) rs
-  repeat-by h rs w bytes fed told pl is =
-      let g = updateFormBy (refusal h bytes fed) h (fed .form) .hub in
-      let a = form-same (refusal h bytes fed) h (fed .form) in
-      let here = place-back h g a p c pl in
-      let sort = is-back h g a p c t is in
-      moved-over h g a p c (readsOf t p c rs)
-      (form-told Proper proper-eq h (ready w) (placeOf (h .codes) p c) (here .found) (readsOf t p c rs .pressed) (readsOf t p c rs .value) (refusal h bytes fed) (fed .form)
-      (fed .name) (fed .code) (fed .is) (fed .held) (told here sort))
-
-  pub tells : {h : Hub} {rs : List RawRecord} → Played h rs → Holds h rs
-  unfolding newOf registerOf incOf resetOf
-  tells (fresh pressed released reversed ok) pl is =
-      absurd (fresh-empty (thresholdsRefusal pressed released) pressed released reversed p c ok (pl .pad))
-  tells (register {h} {rs} sheet w) pl is = register-by (registerRefusal (h .pads) sheet) h sheet rs w refl (λ a b. tells w a b) pl is
-  tells (take {h} {rs} r none ok w) pl is =
-      let a = step-same h (lookAt r) in
-      let here = place-back h (stepHub h (lookAt r)) a p c pl in
-      let sort = is-back h (stepHub h (lookAt r)) a p c t is in
-      moved-over h (stepHub h (lookAt r)) a p c (readsOf t p c (r ∷ rs))
-      (taken-tells h (ready w) (reached w) p c here t sort r (good h r ok) none rs (tells w here sort))
-  tells (serve {h} {rs} some w) pl is =
-      let a = step-same h look in
-      let here = place-back h (stepHub h look) a p c pl in
-      let sort = is-back h (stepHub h look) a p c t is in
-      moved-over h (stepHub h look) a p c (readsOf t p c rs)
-      (serve-tells Proper proper-eq h (ready w) (reached-desk (reached w)) (reached-sound (reached w)) some (placeOf (h .codes) p c) (here .found) (here .bare) (readsOf t p c rs .pressed)
-      (readsOf t p c rs .value) (tells w here sort))
-  tells (inc {h} {rs} w) pl is =
-      let a = counted-same h (nextCounter (h .counter)) in
-      let here = place-back h (countedAt h (nextCounter (h .counter))) a p c pl in
-      let sort = is-back h (countedAt h (nextCounter (h .counter))) a p c t is in
-      moved-over h (countedAt h (nextCounter (h .counter))) a p c (readsOf t p c rs)
-      (counted-tells h (nextCounter (h .counter)) (placeOf (h .codes) p c) (readsOf t p c rs) (tells w here sort))
-  tells (reset {h} {rs} w) pl is =
-      let a = counted-same h 0 in
-      let here = place-back h (countedAt h 0) a p c pl in
-      let sort = is-back h (countedAt h 0) a p c t is in
-      moved-over h (countedAt h 0) a p c (readsOf t p c rs) (counted-tells h 0 (placeOf (h .codes) p c) (readsOf t p c rs) (tells w here sort))
-  tells (repeat {h} {rs} bytes fed w) pl is =
-      subst (λ (g : Hub). Holds g rs) (sym (update-is h bytes fed)) (repeat-by h rs w bytes fed (λ x y. tells w x y)) pl is
+  pub tells : {h : Hub} {rs : List RawRecord} → Played h rs → Place h p c → Is t h (placeOf (h .codes) p c) → Holds h rs
+  tells w pl is = kept p On Holds keeps w (record { place = pl; is = is })

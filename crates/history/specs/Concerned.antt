@@ -76,6 +76,14 @@ spoken-small kind s = by (eqb kind kindPressed) (eqb kind kindReleased) (eqb kin
     by false false true ea eb ec e = omega (arith, eqb-true kind kindAxis ec)
     by false false false ea eb ec e = false-true e
 
+-- its element is listed
+pub spoken-listed : (h : Hub) (r : RawRecord) → Good h r → speaks (r .kind) ≡ true → recordKind h r ≡ 0 → ⊥
+spoken-listed h r ok spoken zero = by (eqb (r .kind) kindAxis) (sym (ok .element (spoken-small (r .kind) spoken)) ∙ zero)
+  where
+    by : (value : Bool) → _≡_ {A = ℕ} (cond value elementAxis elementButton) 0 → ⊥
+    by true e = omega arith
+    by false e = omega arith
+
 module _ (P : Float → Type 0) (alike : (a b : Float) → P a → P b → eq a b ≡ true → a ≡ b) (zero-fits : P zero32) (one-fits : P one32) (h : Hub)
     (w : Ready h) (desk : Desk h) (sound : Sound h) (p c : ℕ) (pl : Place h p c) (r : RawRecord) (ok : Good h r) (none : h .waiting ≡ 0) (b : Bool) (f : Float)
     (t : Tells P alike (sheetOf h) h (placeOf (h .codes) p c) (waitingList h) b f) (away : rejoins p r ≡ false) (own : Concerns p c r) where

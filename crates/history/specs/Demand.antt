@@ -4,11 +4,11 @@ use Prim.Native.Nat.{ℕ, _<_}
 use mathlib.Core.Bool.{Bool, true, false, not, _&&_, _||_}
 use mathlib.Core.List.{List, []}
 use mathlib.Core.Path.{_≡_, refl, sym, _∙_, ap}
-use lib.Dec.{eqb, ltb}
+use lib.Dec.{eqb}
 use lib.Ieee.{Float}
-use lib.ListN.{getD, List·getD-eq-default}
+use lib.ListN.{getD}
 use native.Mathlib.Omega.{arith}
-use borrow.Author.Tests.{lt-ltb, ltb-true, ltb-false, leb-true, lt-leb, eqb-true}
+use borrow.Author.Tests.{lt-ltb, leb-true, lt-leb, eqb-true}
 use Rattle.rules.specs.declared.Hub.{Hub}
 use Rattle.rules.specs.declared.Event.{Event}
 use Rattle.rules.specs.declared.RawRecord.{RawRecord}
@@ -30,6 +30,7 @@ use Rattle.history.specs.Served.{due}
 use Rattle.history.specs.Serve.{Tells}
 use Rattle.history.specs.Records.{Place, none-waits}
 use Rattle.history.specs.Played.{Played, reached}
+use Rattle.history.specs.Register.{listed-found}
 use Rattle.history.specs.Sorts.{button, trigger, Is, silent}
 use Rattle.history.specs.Codes.{tells}
 use Rattle.history.specs.Truth.{false-true, true-false}
@@ -63,18 +64,11 @@ module _ (h : Hub) (p c : ℕ) (free : (getD (h .converts) p false && isDirectio
   element-place desk old axis plain listed =
       record {
         pad = old;
-        found = by (ltb (placeIn h p c) nowhere) refl;
+        found = listed-found h desk (placeIn h p c) listed;
         bare = unfold axialAt in rw (axis, plain);
         plus = λ n t same. no-direction n t (plus-direction n c (eqb n dpadX) refl same);
         minus = λ n t same. no-direction n t (minus-direction n c (eqb n dpadX) refl same);
       }
-    where
-      by : (found : Bool) → ltb (placeIn h p c) nowhere ≡ found → placeIn h p c < nowhere
-      by true l = ltb-true (placeIn h p c) nowhere l
-      by false l =
-          let past = ltb-false (placeIn h p c) nowhere l in
-          let long = desk .sized .kinds in
-          absurd (listed (List·getD-eq-default (h .kinds) 0 {n = placeIn h p c} (omega arith)))
 
 -- ---- the queries
 

@@ -1,125 +1,106 @@
 -- Demand 3 for hats: "Right is pressed exactly when the last DPadX value was 1.0, Left when it was -1.0; pressed reads 1.0, else 0.0; Up and Down the same with
--- DPadY", on a converting pad that lists neither direction; and "opposite directions never read pressed together", also while events wait. Assumes nothing.
-use Prim.Native.Nat.{ℕ, _*_, _<_}
-use mathlib.Core.Bool.{Bool, true, false, not, _&&_}
+-- DPadY", on a converting pad, for each direction that its sheet does not list, whatever it says of the opposite one; and "opposite directions never read pressed
+-- together", also while events wait, where it lists neither.
+use Prim.Native.Nat.{ℕ, _<_}
+use mathlib.Core.Bool.{Bool, true, false, _&&_}
 use mathlib.Core.List.{List}
-use mathlib.Core.Path.{_≡_, refl, sym, _∙_, ap, subst}
+use mathlib.Core.Path.{_≡_, refl, _∙_, ap, subst}
 use lib.Dec.{eqb}
-use lib.IntN.{pos}
-use lib.Ieee.{Float, nan, inf, fin, eq, level, up, down, ofBits}
-use lib.Ieee.Fits.{down-pos}
+use lib.Ieee.{Float, eq}
 use lib.ListN.{getD}
 use native.Mathlib.Omega.{arith}
-use borrow.Author.Tests.{eqb-true}
 use Rattle.numbers.specs.Constants.{one32, minusOne32}
 use Rattle.rules.specs.declared.Hub.{Hub}
 use Rattle.rules.specs.declared.Event.{Event}
+use Rattle.rules.specs.declared.Element.{Element}
 use Rattle.rules.specs.declared.RawRecord.{RawRecord}
 use Rattle.rules.specs.declared.TruthAnswer.the-variants as truthAnswer
 use Rattle.rules.specs.declared.ValueAnswer.the-variants as valueAnswer
 use Rattle.rules.specs.Names.{nowhere, noName, isAxis, isHat, dpadX, positiveCode, negativeCode}
-use Rattle.rules.specs.Hub.{placeIn, kindAt, elementAt, movedAt}
+use Rattle.rules.specs.Hub.{placeIn, kindAt, elementAt}
+use Rattle.rules.specs.Queries.{pressedByCode}
 use Rattle.promises.specs.Waiting.{waitingList}
 use Rattle.registered.specs.Pads.{reached-desk, direction-kept}
-use Rattle.history.specs.Rule.{Reads, held, hatValue}
+use Rattle.history.specs.Rule.{Reads, held, hatValue, directionCode, pressingValue}
 use Rattle.history.specs.Cells.{cellAt, cellPressed}
 use Rattle.history.specs.Waits.{sheetOf, axialAt, takes}
 use Rattle.history.specs.Partner.{unlisted-name}
 use Rattle.history.specs.Records.{none-waits}
 use Rattle.history.specs.Played.{Played, reached}
 use Rattle.history.specs.Written.{writes, never-now}
-use Rattle.history.specs.Sides.{Shows, Sides, Plain}
-use Rattle.history.specs.Hats.{Axle}
+use Rattle.history.specs.Sides.{Shows, Side}
+use Rattle.history.specs.Hats.{Unlisted}
 use Rattle.history.specs.Dpad.{sides}
+use Rattle.history.specs.Opposites.{opposed}
 use Rattle.history.specs.Demand.{asked-pressed, asked-value, standing-truth, standing-value, cell-pressed, cell-value}
-use Rattle.history.specs.Truth.{false-true}
 
--- ---- 1.0 is not -1.0
+module _ {h : Hub} {rs : List RawRecord} (w : Played h rs) (p n : ℕ) (old : p < h .pads) (converts : getD (h .converts) p false ≡ true) (hat : isHat n ≡ true) where
+  found : (positive x : Bool) → eqb n dpadX ≡ x → placeIn h p (directionCode positive n) < nowhere
+  unfolding positiveCode negativeCode
+  found true true e = rw e (direction-kept (reached w) p old 3 (omega arith))
+  found true false e = rw e (direction-kept (reached w) p old 0 (omega arith))
+  found false true e = rw e (direction-kept (reached w) p old 2 (omega arith))
+  found false false e = rw e (direction-kept (reached w) p old 1 (omega arith))
 
-level-one : (s : Bool) (a b : ℕ) → 0 < b → (same none : Bool) → eqb a b ≡ same → eqb a 0 ≡ none → level s a false b ≡ true → level s a true b ≡ false
-level-one s a b some true true e z l = absurd (omega (arith, eqb-true a b e, eqb-true a 0 z))
-level-one true a b some true false e z l = false-true (rw (e, z) at l)
-level-one false a b some true false e z l = rw (e, z)
-level-one s a b some false none e z l = false-true (rw e at l)
-
-one-sided : (v : Float) → eq v one32 ≡ true → eq v minusOne32 ≡ false
-unfolding eq ofBits
-one-sided nan e = false-true e
-one-sided (inf s) e = false-true e
-one-sided (fin s m e) l =
-    level-one s (m * up e * down (pos 0)) (1 * up (pos 0) * down e) (omega (arith, down-pos e)) (eqb (m * up e * down (pos 0)) (1 * up (pos 0) * down e))
-    (eqb (m * up e * down (pos 0)) 0) refl refl l
-
-minus-is : (v : Float) → (not (eq v one32) && eq v minusOne32) ≡ eq v minusOne32
-minus-is v = by (eq v one32) refl
-  where
-    by : (one : Bool) → eq v one32 ≡ one → (not one && eq v minusOne32) ≡ eq v minusOne32
-    by true e = sym (one-sided v e)
-    by false e = refl
-
-module _ {h : Hub} {rs : List RawRecord} (w : Played h rs) (p n : ℕ) (old : p < h .pads) (converts : getD (h .converts) p false ≡ true) (hat : isHat n ≡ true)
-    (no-plus : kindAt h (placeIn h p (positiveCode n)) ≡ 0) (no-minus : kindAt h (placeIn h p (negativeCode n)) ≡ 0) where
-  found-plus : (x : Bool) → eqb n dpadX ≡ x → placeIn h p (positiveCode n) < nowhere
-  unfolding positiveCode
-  found-plus true e = rw e (direction-kept (reached w) p old 3 (omega arith))
-  found-plus false e = rw e (direction-kept (reached w) p old 0 (omega arith))
-
-  found-minus : (x : Bool) → eqb n dpadX ≡ x → placeIn h p (negativeCode n) < nowhere
-  unfolding negativeCode
-  found-minus true e = rw e (direction-kept (reached w) p old 2 (omega arith))
-  found-minus false e = rw e (direction-kept (reached w) p old 1 (omega arith))
-
-  plain : (d : ℕ) → placeIn h p d < nowhere → kindAt h (placeIn h p d) ≡ 0 → Plain (sheetOf h) (placeIn h p d)
-  unfolding axialAt isAxis
-  plain d found none =
-      let name = unlisted-name h (reached-desk (reached w)) p old d found none in
-      record { inside = found; bare = rw (name, none); whole = rw none }
-
-  axle : Axle h p n
-  unfolding takes
-  axle =
+  unlisted : (positive : Bool) → kindAt h (placeIn h p (directionCode positive n)) ≡ 0 → Unlisted (sheetOf h) p n positive
+  unfolding takes axialAt isAxis
+  unlisted positive none =
+      let inside = found positive (eqb n dpadX) refl in
+      let name = unlisted-name h (reached-desk (reached w)) p old (directionCode positive n) inside none in
       record {
         pad = old;
         takes = rw (converts, hat);
-        plus = plain (positiveCode n) (found-plus (eqb n dpadX) refl) no-plus;
-        minus = plain (negativeCode n) (found-minus (eqb n dpadX) refl) no-minus;
-        no-plus = no-plus;
-        no-minus = no-minus;
+        plain = record { inside = inside; bare = rw (name, none); whole = rw none };
+        none = none;
       }
 
-  -- the last value of the hat's axis, told from the records and the pad's sheet
-  abbrev pub last : Float
-  last = hatValue (h .reversed) (λ d. getD (h .names) (placeIn h p d) noName) (λ d. elementAt h (placeIn h p d)) n p rs
+  asked : (c : ℕ) → pressedByCode h p c ≡ truthAnswer.Is (cellPressed (cellAt h (placeIn h p c)))
+  asked c =
+      let few = reached-desk (reached w) .few in
+      asked-pressed h p c ∙ (standing-truth (h .pads) p _ old (omega arith) ∙ ap truthAnswer.Is (cell-pressed h (placeIn h p c)))
 
-  both : Sides (sheetOf h) h (placeIn h p (positiveCode n)) (placeIn h p (negativeCode n)) (waitingList h) (eq last one32) (not (eq last one32) && eq last minusOne32)
-  both =
-      sides p n (h .reversed) (λ d. getD (h .names) (placeIn h p d) noName) (λ d. elementAt h (placeIn h p d)) w axle
-      (record { name = λ c found. refl; element = λ c found. refl; turned = refl })
+  -- ---- when none wait: nameOf and elementOf are what the pad's sheet says of a code
 
-  -- "opposite directions never read pressed together", after any step or call
-  pub opposites : (cellPressed (cellAt h (placeIn h p (positiveCode n))) && cellPressed (cellAt h (placeIn h p (negativeCode n)))) ≡ false
-  opposites = never-now (sheetOf h) (placeIn h p (positiveCode n)) (placeIn h p (negativeCode n)) (waitingList h) _ _ (both .never)
+  module _ (none : h .waiting ≡ 0) (nameOf : ℕ → ℕ) (elementOf : ℕ → Element) (names : (c : ℕ) → placeIn h p c < nowhere → getD (h .names) (placeIn h p c) noName ≡ nameOf c)
+      (elements : (c : ℕ) → placeIn h p c < nowhere → elementAt h (placeIn h p c) ≡ elementOf c) where
+    -- the last value of the hat's axis, told from the records and the pad's sheet
+    abbrev pub last : Float
+    last = hatValue (h .reversed) nameOf elementOf n p rs
 
-  -- ---- when none wait
-
-  module _ (none : h .waiting ≡ 0) where
-    settled : (d : ℕ) (b : Bool) → Shows (writes (sheetOf h) (placeIn h p d) (waitingList h) (cellAt h (placeIn h p d))) b → movedAt h (placeIn h p d) ≡ false → Reads h p d (held b)
+    settled : (c : ℕ) (b : Bool) → Side h (placeIn h p c) b → Reads h p c (held b)
     unfolding writes
-    settled d b shows still =
+    settled c b t =
         let few = reached-desk (reached w) .few in
-        let cell : Shows (cellAt h (placeIn h p d)) b = subst (λ (q : List Event). Shows (writes (sheetOf h) (placeIn h p d) q (cellAt h (placeIn h p d))) b) (none-waits h none) shows in
+        let k = placeIn h p c in
+        let shows : Shows (cellAt h k) b = subst (λ (q : List Event). Shows (writes (sheetOf h) k q (cellAt h k)) b) (none-waits h none) (t .shows) in
         record {
-          pressed = asked-pressed h p d ∙ (standing-truth (h .pads) p _ old (omega arith) ∙ ap truthAnswer.Is (cell-pressed h (placeIn h p d) ∙ cell .pressed));
-          value = asked-value h p d ∙ (standing-value (h .pads) p _ old (omega arith) ∙ ap valueAnswer.Value (cell-value h (placeIn h p d) still ∙ cell .value));
+          pressed = asked c ∙ ap truthAnswer.Is (shows .pressed);
+          value = asked-value h p c ∙ (standing-value (h .pads) p _ old (omega arith) ∙ ap valueAnswer.Value (cell-value h k (t .still) ∙ shows .value));
         }
 
+    direction : (positive : Bool) → kindAt h (placeIn h p (directionCode positive n)) ≡ 0
+        → Reads h p (directionCode positive n) (held (eq last (pressingValue positive)))
+    direction positive alone =
+        settled (directionCode positive n) (eq last (pressingValue positive))
+        (sides p n positive (h .reversed) nameOf elementOf w (unlisted positive alone) (record { name = names; element = elements }) refl)
+
     -- Right, and Up
-    pub positive : Reads h p (positiveCode n) (held (eq last one32))
-    positive = settled (positiveCode n) (eq last one32) (both .plus) (both .plus-still)
+    pub positive : kindAt h (placeIn h p (positiveCode n)) ≡ 0 → Reads h p (positiveCode n) (held (eq last one32))
+    positive alone = direction true alone
 
     -- Left, and Down
-    pub negative : Reads h p (negativeCode n) (held (eq last minusOne32))
-    negative =
-        settled (negativeCode n) (eq last minusOne32)
-        (subst (λ (b : Bool). Shows (writes (sheetOf h) (placeIn h p (negativeCode n)) (waitingList h) (cellAt h (placeIn h p (negativeCode n)))) b) (minus-is last) (both .minus))
-        (both .minus-still)
+    pub negative : kindAt h (placeIn h p (negativeCode n)) ≡ 0 → Reads h p (negativeCode n) (held (eq last minusOne32))
+    negative alone = direction false alone
+
+  -- ---- "opposite directions never read pressed together", after any step or call
+
+  module _ (no-plus : kindAt h (placeIn h p (positiveCode n)) ≡ 0) (no-minus : kindAt h (placeIn h p (negativeCode n)) ≡ 0) where
+    pub opposites : (cellPressed (cellAt h (placeIn h p (positiveCode n))) && cellPressed (cellAt h (placeIn h p (negativeCode n)))) ≡ false
+    opposites =
+        never-now (sheetOf h) (placeIn h p (positiveCode n)) (placeIn h p (negativeCode n)) (waitingList h) _ _ (opposed p n w (unlisted true no-plus) (unlisted false no-minus))
+
+    -- by the queries
+    pub opposites-read : pressedByCode h p (positiveCode n) ≡ truthAnswer.Is true → pressedByCode h p (negativeCode n) ≡ truthAnswer.Is false
+    opposites-read plus =
+        let down : cellPressed (cellAt h (placeIn h p (positiveCode n))) ≡ true = cc (asked (positiveCode n)) in
+        asked (negativeCode n) ∙ ap truthAnswer.Is (rw down at opposites)

@@ -1,5 +1,5 @@
 -- A repeat that is fed back while its button is held changes no reading. Assumes nothing.
-use Prim.Native.Nat.{ℕ, zero, suc, _<_}
+use Prim.Native.Nat.{ℕ, _<_}
 use mathlib.Core.Bool.{Bool, true, false, cond, _&&_, _||_}
 use mathlib.Core.List.{List}
 use mathlib.Core.Path.{_≡_, refl, sym, _∙_, ap, subst}
@@ -8,16 +8,13 @@ use lib.Ieee.{Float, eq}
 use borrow.Author.Tests.{eqb-true}
 use Rattle.rules.specs.declared.Hub.{Hub}
 use Rattle.rules.specs.declared.Event.{Event}
-use Rattle.rules.specs.declared.EventForm.{EventForm}
-use Rattle.rules.specs.declared.EventType.{EventType}
 use Rattle.rules.specs.declared.EventType.the-variants.{Repeated}
 use Rattle.rules.specs.Names.{nowhere}
 use Rattle.rules.specs.Places.{placeOf}
-use Rattle.rules.specs.Events.{codeOf, formEvent}
+use Rattle.rules.specs.Events.{codeOf}
 use Rattle.rules.specs.State.{readPressed}
 use Rattle.rules.specs.Hub.{pressedAt, movedAt}
 use Rattle.rules.specs.Step.{updatedOf, updatedAt}
-use Rattle.rules.specs.Calls.{updateFormBy}
 use Rattle.promises.specs.Waiting.{waitingList}
 use Rattle.history.specs.Cells.{Cell, cellAt, cellPressed, cellValue, cellType, hits, cell-after, moved-after}
 use Rattle.history.specs.Turns.{ev}
@@ -70,7 +67,7 @@ module _ (P : Float → Type 0) (alike : (a b : Float) → P a → P b → eq a 
   abbrev Told : Hub → Type 0
   Told g = Tells P alike (sheetOf g) g k (waitingList g) b v
 
-  repeat-told : (pad time n c : ℕ) → pressedAt h (placeOf (h .codes) pad c) ≡ true → Told h → Told (updatedOf true h (ev pad time (Repeated n c)))
+  pub repeat-told : (pad time n c : ℕ) → pressedAt h (placeOf (h .codes) pad c) ≡ true → Told h → Told (updatedOf true h (ev pad time (Repeated n c)))
   repeat-told pad time n c held t =
       let cell = repeat-cell h w pad time n c held k inside in
       let moved = repeat-moved h w pad time n c held k inside (t .still) in
@@ -84,12 +81,3 @@ module _ (P : Float → Type 0) (alike : (a b : Float) → P a → P b → eq a 
         still = moved;
         waits = t .waits;
       }))
-
-  event-told : (e : Event) (n c : ℕ) → e .event ≡ Repeated n c → pressedAt h (placeOf (h .codes) (e .pad) c) ≡ true → Told h → Told (updatedOf true h e)
-  event-told e n c is held t =
-      subst (λ (y : EventType). Told (updatedOf true h (ev (e .pad) (e .time) y))) (sym is) (repeat-told (e .pad) (e .time) n c held t)
-
-  pub form-told : (number : ℕ) (f : EventForm) (n c : ℕ) → formEvent f .event ≡ Repeated n c → pressedAt h (placeOf (h .codes) (formEvent f .pad) c) ≡ true → Told h
-      → Told (updateFormBy number h f .hub)
-  form-told zero f n c is held t = event-told (formEvent f) n c is held t
-  form-told (suc number) f n c is held t = t

@@ -5,7 +5,6 @@ use mathlib.Core.List.{List}
 use mathlib.Core.Path.{_≡_, refl, sym, _∙_, ap, subst}
 use lib.Ieee.{Float, eq}
 use native.Mathlib.Omega.{arith}
-use borrow.Author.Tests.{eqb-true}
 use Rattle.numbers.specs.Constants.{zero32}
 use Rattle.rules.specs.declared.Hub.{Hub}
 use Rattle.rules.specs.declared.Event.{Event}
@@ -13,17 +12,16 @@ use Rattle.rules.specs.declared.EventType.{EventType}
 use Rattle.rules.specs.declared.EventType.the-variants.{Pressed, Released, Repeated, Changed, Axis, Connected, Disconnected, Dropped}
 use Rattle.rules.specs.Names.{nowhere, placesPerPad}
 use Rattle.rules.specs.Places.{placeOf}
-use Rattle.rules.specs.Events.{codeOf}
 use Rattle.rules.specs.Calls.{registerRefusal}
 use Rattle.promises.specs.Waiting.{waitingList}
-use Rattle.pad.specs.Lookup.{place-stands, places-differ}
+use Rattle.pad.specs.Lookup.{place-stands}
 use Rattle.registered.specs.Pads.{Desk}
 use Rattle.history.specs.Cells.{Cell, cellAt, cellPressed, cellValue, hits, Long}
 use Rattle.history.specs.Turns.{ev}
 use Rattle.history.specs.Waits.{sheetOf, All, empty, more, Fit, fit-pad}
 use Rattle.history.specs.Served.{due, dueBy, dueType, Waiting, away, value}
 use Rattle.history.specs.Serve.{Tells}
-use Rattle.history.specs.Register.{next, same-queue, same-hits, still-fits, more-pads, old-place, old-zoned, old-cell, old-moved, new-touched, new-moved}
+use Rattle.history.specs.Register.{next, same-queue, same-hits, still-fits, more-pads, old-place, old-zoned, old-cell, old-moved, new-touched, new-moved, new-apart}
 
 module _ (P : Float → Type 0) (alike : (a b : Float) → P a → P b → eq a b ≡ true → a ≡ b) (zero-fits : P zero32) (h : Hub) (s : List ℕ) (desk : Desk h)
     (ok : registerRefusal (h .pads) s ≡ 0) where
@@ -96,21 +94,17 @@ module _ (P : Float → Type 0) (alike : (a b : Float) → P a → P b → eq a 
     new-own : j / placesPerPad ≡ h .pads
     new-own = place-stands (then .codes) (h .pads) c found .own
 
-    new-apart : (e : Event) (same : Bool) → e .pad < h .pads → hits (then .codes) j e ≡ same → same ≡ false
-    unfolding hits
-    new-apart e true i hit =
-        let at = places-differ (then .codes) (h .pads) c (e .pad) (codeOf e) found (sym (eqb-true (placeOf (then .codes) (e .pad) (codeOf e)) j hit)) .0 in
-        absurd (omega arith)
-    new-apart e false i hit = refl
+    apart : (e : Event) → e .pad < h .pads → hits (then .codes) j e ≡ false
+    apart e old = new-apart h s desk ok (h .pads) c (omega arith) found e old
 
     new-waits : {q : List Event} → All (Fit (sheetOf h)) q → All (Waiting P alike (sheetOf then) j) q
     new-waits empty = empty
-    new-waits (more {e} fit rest) = more (away (still-fits h s desk ok fit) (new-apart e (hits (then .codes) j e) (fit-pad fit) refl)) (new-waits rest)
+    new-waits (more {e} fit rest) = more (away (still-fits h s desk ok fit) (apart e (fit-pad fit))) (new-waits rest)
 
     new-due : {q : List Event} (v : Float) → All (Fit (sheetOf h)) q → due (sheetOf then) j q v ≡ v
     unfolding due dueBy
     new-due v empty = refl
-    new-due v (more {e} fit rest) = rw (new-apart e (hits (then .codes) j e) (fit-pad fit) refl) (new-due v rest)
+    new-due v (more {e} fit rest) = rw (apart e (fit-pad fit)) (new-due v rest)
 
     pub new-tells : All (Fit (sheetOf h)) (waitingList h) → Tells P alike (sheetOf then) then j (waitingList then) false zero32
     new-tells fits =

@@ -1,180 +1,145 @@
--- The two directions of a hat after a registration: those of a pad before it show what they showed, and those of the new pad nothing. Assumes nothing.
+-- The directions of hats after a registration: those of a pad before it show what they showed, and those of the new pad nothing.
 use Prim.Native.Nat.{ℕ, _/_, _<_}
-use mathlib.Core.Bool.{Bool, true, false, cond, _&&_}
-use mathlib.Core.List.{List}
-use mathlib.Core.Path.{_≡_, refl, sym, _∙_, ap, subst}
+use mathlib.Core.Bool.{Bool, false, cond}
+use mathlib.Core.List.{List, []}
+use mathlib.Core.Path.{_≡_, refl, sym, _∙_, ap, subst, subst₂}
 use lib.Dec.{eqb}
-use lib.Ieee.{Float}
 use lib.ListN.{getD}
 use native.Mathlib.Omega.{arith}
-use borrow.Author.Tests.{eqb-true}
-use Rattle.numbers.specs.Constants.{zero32}
 use Rattle.rules.specs.declared.Hub.{Hub}
 use Rattle.rules.specs.declared.Event.{Event}
 use Rattle.rules.specs.declared.Element.{Element}
-use Rattle.rules.specs.Names.{nowhere, noName, placesPerPad, positiveCode, negativeCode}
+use Rattle.rules.specs.Names.{nowhere, noName, placesPerPad}
 use Rattle.rules.specs.Sheets.{elementAxis}
 use Rattle.rules.specs.Places.{placeOf}
-use Rattle.rules.specs.Events.{codeOf}
 use Rattle.rules.specs.Hub.{elementAt}
-use Rattle.rules.specs.Calls.{registerRefusal, registeredAt}
+use Rattle.rules.specs.Calls.{registerRefusal}
 use Rattle.promises.specs.Waiting.{waitingList}
-use Rattle.pad.specs.Lookup.{place-stands, places-differ}
+use Rattle.pad.specs.Lookup.{place-stands}
 use Rattle.registered.specs.Pads.{Desk}
-use Rattle.history.specs.Cells.{Cell, cellAt, cellPressed, cellType, hits, Long}
-use Rattle.history.specs.Waits.{sheetOf, axialAt, takes, All, empty, more, Fit, fit-pad}
-use Rattle.history.specs.Exact.{putAt}
-use Rattle.history.specs.Register.{next, same-queue, same-hits, old-place, old-takes, old-name, old-kind, old-element, old-axial, old-cell, old-moved, new-touched, new-moved}
-use Rattle.history.specs.Written.{writes, Never}
-use Rattle.history.specs.Sides.{Shows, Sides, Plain}
-use Rattle.history.specs.Hats.{Axle}
-use Rattle.history.specs.HatValues as base
+use Rattle.history.specs.Rule.{directionCode}
+use Rattle.history.specs.Cells.{Cell, cellAt, cellType, Long}
+use Rattle.history.specs.Waits.{sheetOf, axialAt, All, empty, more, Fit, fit-pad}
+use Rattle.history.specs.Exact.{putAt, Apart}
+use Rattle.history.specs.Register.{next, same-queue, same-hits, still-fits, old-place, old-takes, old-name, old-kind, old-element, old-axial, old-cell, old-moved, new-touched, new-moved, new-apart}
+use Rattle.history.specs.Written.{writes, Never, writes-more, never-more}
+use Rattle.history.specs.Sides.{Shows, Side, Opposed, side-by, opposed-by}
+use Rattle.history.specs.Hats.{Unlisted, Sheeted}
 
-module _ (p n : ℕ) (reversed : Bool) (nameOf : ℕ → ℕ) (elementOf : ℕ → Element) where
-  module _ (h : Hub) (s : List ℕ) (to : Desk h) (ok : registerRefusal (h .pads) s ≡ 0) (fits : All (Fit (sheetOf h)) (waitingList h)) where
-    abbrev then : Hub
-    then = next h s to ok
+module _ (h : Hub) (s : List ℕ) (desk : Desk h) (ok : registerRefusal (h .pads) s ≡ 0) (p : ℕ) where
+  abbrev then : Hub
+  then = next h s desk ok
 
-    -- a pad before it
-    module _ (old : p < h .pads) where
-      place : (c : ℕ) → placeOf (then .codes) p c ≡ placeOf (h .codes) p c
-      place c = old-place h s to ok p old c
+  -- ---- a pad before it
 
-      own : (c : ℕ) → placeOf (h .codes) p c < nowhere → placeOf (h .codes) p c / placesPerPad ≡ p
-      own c found = place-stands (h .codes) p c found .own
+  module _ (old : p < h .pads) where
+    place : (c : ℕ) → placeOf (then .codes) p c ≡ placeOf (h .codes) p c
+    place c = old-place h s desk ok p old c
 
-      pub old-sheeted : base.Sheeted p n reversed nameOf elementOf then → base.Sheeted p n reversed nameOf elementOf h
-      unfolding registeredAt
-      old-sheeted t =
-          record {
-            name =
-                λ c found.
-                sym (old-name h s to ok p old (placeOf (h .codes) p c) (own c found))
-                ∙ (ap (λ (k : ℕ). getD (then .names) k noName) (sym (place c)) ∙ t .name c (subst (λ (k : ℕ). k < nowhere) (sym (place c)) found));
-            element =
-                λ c found.
-                sym (old-element h s to ok p old (placeOf (h .codes) p c) (own c found))
-                ∙ (ap (λ (k : ℕ). elementAt then k) (sym (place c)) ∙ t .element c (subst (λ (k : ℕ). k < nowhere) (sym (place c)) found));
-            turned = t .turned;
-          }
+    own : (c : ℕ) → placeOf (h .codes) p c < nowhere → placeOf (h .codes) p c / placesPerPad ≡ p
+    own c found = place-stands (h .codes) p c found .own
 
-      old-plain : (c : ℕ) → Plain (sheetOf then) (placeOf (then .codes) p c) → Plain (sheetOf h) (placeOf (h .codes) p c)
-      old-plain c pl =
-          let found : placeOf (h .codes) p c < nowhere = subst (λ (k : ℕ). k < nowhere) (place c) (pl .inside) in
-          record {
-            inside = found;
-            bare = sym (old-axial h s to ok p old (placeOf (h .codes) p c) (own c found)) ∙ (ap (λ (k : ℕ). axialAt (sheetOf then) k) (sym (place c)) ∙ pl .bare);
-            whole =
-                ap (λ (kind : ℕ). eqb kind elementAxis) (sym (old-kind h s to ok p old (placeOf (h .codes) p c) (own c found)))
-                ∙ (ap (λ (k : ℕ). eqb (getD (then .kinds) k 0) elementAxis) (sym (place c)) ∙ pl .whole);
-          }
+    pub old-unlisted : (n : ℕ) (positive : Bool) → Unlisted (sheetOf then) p n positive → Unlisted (sheetOf h) p n positive
+    old-unlisted n positive u =
+        let c = directionCode positive n in
+        let k = placeOf (h .codes) p c in
+        let found : k < nowhere = subst (λ (i : ℕ). i < nowhere) (place c) (u .plain .inside) in
+        let kind = sym (old-kind h s desk ok p old k (own c found)) in
+        record {
+          pad = old;
+          takes = sym (old-takes h s desk ok p old n) ∙ u .takes;
+          plain =
+              record {
+                inside = found;
+                bare = sym (old-axial h s desk ok p old k (own c found)) ∙ (ap (λ (i : ℕ). axialAt (sheetOf then) i) (sym (place c)) ∙ u .plain .bare);
+                whole = ap (λ (x : ℕ). eqb x elementAxis) kind ∙ (ap (λ (i : ℕ). eqb (getD (then .kinds) i 0) elementAxis) (sym (place c)) ∙ u .plain .whole);
+              };
+          none = kind ∙ (ap (λ (i : ℕ). getD (then .kinds) i 0) (sym (place c)) ∙ u .none);
+        }
 
-      old-none : (c : ℕ) → placeOf (h .codes) p c < nowhere → getD (then .kinds) (placeOf (then .codes) p c) 0 ≡ 0 → getD (h .kinds) (placeOf (h .codes) p c) 0 ≡ 0
-      old-none c found e = sym (old-kind h s to ok p old (placeOf (h .codes) p c) (own c found)) ∙ (ap (λ (k : ℕ). getD (then .kinds) k 0) (sym (place c)) ∙ e)
+    pub old-sheeted : (nameOf : ℕ → ℕ) (elementOf : ℕ → Element) → Sheeted (sheetOf then) p nameOf elementOf → Sheeted (sheetOf h) p nameOf elementOf
+    old-sheeted nameOf elementOf t =
+        record {
+          name =
+              λ c found.
+              sym (old-name h s desk ok p old (placeOf (h .codes) p c) (own c found))
+              ∙ (ap (λ (k : ℕ). getD (then .names) k noName) (sym (place c)) ∙ t .name c (still c found));
+          element =
+              λ c found.
+              sym (old-element h s desk ok p old (placeOf (h .codes) p c) (own c found))
+              ∙ (ap (λ (k : ℕ). elementAt then k) (sym (place c)) ∙ t .element c (still c found));
+        }
+      where
+        still : (c : ℕ) → placeOf (h .codes) p c < nowhere → placeOf (then .codes) p c < nowhere
+        still c found = subst (λ (k : ℕ). k < nowhere) (sym (place c)) found
 
-      pub old-axle : Axle then p n → Axle h p n
-      old-axle x =
-          let plus = old-plain (positiveCode n) (x .plus) in
-          let minus = old-plain (negativeCode n) (x .minus) in
-          record {
-            pad = old;
-            takes = sym (old-takes h s to ok p old n) ∙ x .takes;
-            plus = plus;
-            minus = minus;
-            no-plus = old-none (positiveCode n) (plus .inside) (x .no-plus);
-            no-minus = old-none (negativeCode n) (minus .inside) (x .no-minus);
-          }
+    same-put : (k : ℕ) (e : Event) (x : Cell) → e .pad < h .pads → putAt (sheetOf then) k e x ≡ putAt (sheetOf h) k e x
+    same-put k e x i = ap (λ (hit : Bool). cond hit (cellType (e .event) x) x) (same-hits h s desk ok k e i)
 
-      same-put : (k : ℕ) (e : Event) (x : Cell) → e .pad < h .pads → putAt (sheetOf then) k e x ≡ putAt (sheetOf h) k e x
-      same-put k e x i = ap (λ (hit : Bool). cond hit (cellType (e .event) x) x) (same-hits h s to ok k e i)
+    same-writes : (k : ℕ) {q : List Event} (x : Cell) → All (Fit (sheetOf h)) q → writes (sheetOf then) k q x ≡ writes (sheetOf h) k q x
+    unfolding writes
+    same-writes k x empty = refl
+    same-writes k x (more {e} {es} f rest) =
+        ap (λ (y : Cell). writes (sheetOf then) k es y) (same-put k e x (fit-pad f)) ∙ same-writes k (putAt (sheetOf h) k e x) rest
 
-      same-writes : (k : ℕ) {q : List Event} (x : Cell) → All (Fit (sheetOf h)) q → writes (sheetOf then) k q x ≡ writes (sheetOf h) k q x
-      unfolding writes
-      same-writes k x empty = refl
-      same-writes k x (more {e} {es} f rest) =
-          ap (λ (y : Cell). writes (sheetOf then) k es y) (same-put k e x (fit-pad f)) ∙ same-writes k (putAt (sheetOf h) k e x) rest
+    same-never : (j k : ℕ) {q : List Event} (x y : Cell) → All (Fit (sheetOf h)) q → Never (sheetOf h) j k q x y → Never (sheetOf then) j k q x y
+    unfolding Never
+    same-never j k x y empty never = never
+    same-never j k x y (more {e} {es} f rest) never = (
+      never .0,
+      subst₂ (Never (sheetOf then) j k es) (sym (same-put j e x (fit-pad f))) (sym (same-put k e y (fit-pad f)))
+          (same-never j k (putAt (sheetOf h) j e x) (putAt (sheetOf h) k e y) rest (never .1)),
+    )
 
-      same-never : (i k : ℕ) {q : List Event} (x y : Cell) → All (Fit (sheetOf h)) q → Never (sheetOf h) i k q x y → Never (sheetOf then) i k q x y
-      unfolding Never
-      same-never i k x y empty never = never
-      same-never i k x y (more {e} {es} f rest) never = (
-        never .0,
-        subst (λ (a : Cell). Never (sheetOf then) i k es a (putAt (sheetOf then) k e y)) (sym (same-put i e x (fit-pad f)))
-            (subst (λ (b : Cell). Never (sheetOf then) i k es (putAt (sheetOf h) i e x) b) (sym (same-put k e y (fit-pad f)))
-            (same-never i k (putAt (sheetOf h) i e x) (putAt (sheetOf h) k e y) rest (never .1))),
-      )
+    module _ (fits : All (Fit (sheetOf h)) (waitingList h)) where
+      pub old-side : (c : ℕ) → placeOf (h .codes) p c < nowhere → (b : Bool) → Side h (placeOf (h .codes) p c) b → Side then (placeOf (then .codes) p c) b
+      old-side c found b t =
+          let k = placeOf (h .codes) p c in
+          subst (λ (i : ℕ). Side then i b) (sym (place c))
+          (side-by then refl (same-queue h s desk ok) k (old-cell h s desk ok p old k (own c found))
+          (subst (λ (x : Cell). Shows x b) (sym (same-writes k (cellAt h k) fits)) (t .shows)) (old-moved h s desk ok p old k (own c found) ∙ t .still))
 
-      pub old-both : (v : Float) → Axle h p n → base.Both p n reversed nameOf elementOf h v → base.Both p n reversed nameOf elementOf then v
-      old-both v x t =
-          let i = placeOf (h .codes) p (positiveCode n) in
-          let k = placeOf (h .codes) p (negativeCode n) in
-          let ci = old-cell h s to ok p old i (own (positiveCode n) (x .plus .inside)) in
-          let ck = old-cell h s to ok p old k (own (negativeCode n) (x .minus .inside)) in
-          subst (λ (j : ℕ). Sides (sheetOf then) then j (placeOf (then .codes) p (negativeCode n)) (waitingList then) (base.plusOf p n reversed nameOf elementOf v) (base.minusOf p n reversed nameOf elementOf v)) (sym (place (positiveCode n)))
-          (subst (λ (j : ℕ). Sides (sheetOf then) then i j (waitingList then) (base.plusOf p n reversed nameOf elementOf v) (base.minusOf p n reversed nameOf elementOf v)) (sym (place (negativeCode n)))
-          (subst (λ (q : List Event). Sides (sheetOf then) then i k q (base.plusOf p n reversed nameOf elementOf v) (base.minusOf p n reversed nameOf elementOf v)) (sym (same-queue h s to ok))
-          (record {
-            plus =
-                subst (λ (y : Cell). Shows y (base.plusOf p n reversed nameOf elementOf v)) (sym (ap (λ (y : Cell). writes (sheetOf then) i (waitingList h) y) ci ∙ same-writes i (cellAt h i) fits)) (t .plus);
-            minus =
-                subst (λ (y : Cell). Shows y (base.minusOf p n reversed nameOf elementOf v)) (sym (ap (λ (y : Cell). writes (sheetOf then) k (waitingList h) y) ck ∙ same-writes k (cellAt h k) fits)) (t .minus);
-            plus-still = old-moved h s to ok p old i (own (positiveCode n) (x .plus .inside)) ∙ t .plus-still;
-            minus-still = old-moved h s to ok p old k (own (negativeCode n) (x .minus .inside)) ∙ t .minus-still;
-            never =
-                subst (λ (a : Cell). Never (sheetOf then) i k (waitingList h) a (cellAt then k)) (sym ci)
-                (subst (λ (b : Cell). Never (sheetOf then) i k (waitingList h) (cellAt h i) b) (sym ck) (same-never i k (cellAt h i) (cellAt h k) fits (t .never)));
-          })))
+      pub old-opposed : (c d : ℕ) → placeOf (h .codes) p c < nowhere → placeOf (h .codes) p d < nowhere
+          → Opposed h (placeOf (h .codes) p c) (placeOf (h .codes) p d) → Opposed then (placeOf (then .codes) p c) (placeOf (then .codes) p d)
+      old-opposed c d at-c at-d t =
+          let j = placeOf (h .codes) p c in
+          let k = placeOf (h .codes) p d in
+          subst₂ (Opposed then) (sym (place c)) (sym (place d))
+          (opposed-by then refl (same-queue h s desk ok) j k (old-cell h s desk ok p old j (own c at-c)) (old-cell h s desk ok p old k (own d at-d))
+          (same-never j k (cellAt h j) (cellAt h k) fits t))
 
-    -- the new pad
-    module _ (last : p ≡ h .pads) (long : Long h) (x : Axle then p n) where
-      far : (c : ℕ) → placeOf (then .codes) p c < nowhere → (e : Event) (same : Bool) → e .pad < h .pads → hits (then .codes) (placeOf (then .codes) p c) e ≡ same → same ≡ false
-      unfolding hits
-      far c found e true i hit =
-          let at = places-differ (then .codes) p c (e .pad) (codeOf e) found (sym (eqb-true (placeOf (then .codes) (e .pad) (codeOf e)) (placeOf (then .codes) p c) hit)) .0 in
-          absurd (omega arith)
-      far c found e false i hit = refl
+  -- ---- the new pad
 
-      still-put : (c : ℕ) → placeOf (then .codes) p c < nowhere → (e : Event) (y : Cell) → e .pad < h .pads → putAt (sheetOf then) (placeOf (then .codes) p c) e y ≡ y
-      still-put c found e y i = ap (λ (hit : Bool). cond hit (cellType (e .event) y) y) (far c found e (hits (then .codes) (placeOf (then .codes) p c) e) i refl)
+  module _ (last : p ≡ h .pads) (long : Long h) (fits : All (Fit (sheetOf h)) (waitingList h)) where
+    module _ (c : ℕ) (found : placeOf (then .codes) p c < nowhere) where
+      abbrev k : ℕ
+      k = placeOf (then .codes) p c
 
-      still-writes : (c : ℕ) → placeOf (then .codes) p c < nowhere → {q : List Event} (y : Cell) → All (Fit (sheetOf h)) q
-          → writes (sheetOf then) (placeOf (then .codes) p c) q y ≡ y
-      unfolding writes
-      still-writes c found y empty = refl
-      still-writes c found y (more {e} {es} f rest) =
-          ap (λ (u : Cell). writes (sheetOf then) (placeOf (then .codes) p c) es u) (still-put c found e y (fit-pad f)) ∙ still-writes c found y rest
+      -- all that waits is of other places
+      apart : {q : List Event} → All (Fit (sheetOf h)) q → All (Apart (sheetOf then) k) q
+      apart empty = empty
+      apart (more {e} fit rest) =
+          more (record { fit = still-fits h s desk ok fit; apart = new-apart h s desk ok p c (omega arith) found e (fit-pad fit) }) (apart rest)
 
-      still-never : {q : List Event} (y u : Cell) → All (Fit (sheetOf h)) q → (cellPressed y && cellPressed u) ≡ false
-          → Never (sheetOf then) (placeOf (then .codes) p (positiveCode n)) (placeOf (then .codes) p (negativeCode n)) q y u
-      unfolding Never
-      still-never y u empty apart = apart
-      still-never y u (more {e} {es} f rest) apart = (
-        apart,
-        subst (λ (a : Cell). Never (sheetOf then) (placeOf (then .codes) p (positiveCode n)) (placeOf (then .codes) p (negativeCode n)) es a (putAt (sheetOf then) (placeOf (then .codes) p (negativeCode n)) e u)) (sym (still-put (positiveCode n) (x .plus .inside) e y (fit-pad f)))
-            (subst (λ (b : Cell). Never (sheetOf then) (placeOf (then .codes) p (positiveCode n)) (placeOf (then .codes) p (negativeCode n)) es y b) (sym (still-put (negativeCode n) (x .minus .inside) e u (fit-pad f)))
-            (still-never y u rest apart)),
-      )
+      new-own : k / placesPerPad ≡ h .pads
+      new-own = place-stands (then .codes) p c found .own ∙ last
 
-      new-own : (c : ℕ) → placeOf (then .codes) p c < nowhere → placeOf (then .codes) p c / placesPerPad ≡ h .pads
-      new-own c found = place-stands (then .codes) p c found .own ∙ last
-
-      new-shows : (c : ℕ) → placeOf (then .codes) p c < nowhere → Shows (cellAt then (placeOf (then .codes) p c)) false
+      new-shows : Shows (cellAt then k) false
       unfolding cellAt
-      new-shows c found =
-          let off = new-touched h s to ok (placeOf (then .codes) p c) (new-own c found) long in
+      new-shows =
+          let off = new-touched h s desk ok k new-own long in
           record { pressed = rw off; value = rw off }
 
-      pub new-both : base.Both p n reversed nameOf elementOf then zero32
-      new-both =
-          let i = placeOf (then .codes) p (positiveCode n) in
-          let k = placeOf (then .codes) p (negativeCode n) in
-          let plus = new-shows (positiveCode n) (x .plus .inside) in
-          base.neither p n reversed nameOf elementOf then
-          (subst (λ (q : List Event). Sides (sheetOf then) then i k q false false) (sym (same-queue h s to ok))
-          (record {
-            plus = subst (λ (y : Cell). Shows y false) (sym (still-writes (positiveCode n) (x .plus .inside) (cellAt then i) fits)) plus;
-            minus = subst (λ (y : Cell). Shows y false) (sym (still-writes (negativeCode n) (x .minus .inside) (cellAt then k) fits)) (new-shows (negativeCode n) (x .minus .inside));
-            plus-still = new-moved h s to ok i (new-own (positiveCode n) (x .plus .inside)) long;
-            minus-still = new-moved h s to ok k (new-own (negativeCode n) (x .minus .inside)) long;
-            never = still-never (cellAt then i) (cellAt then k) fits (rw (plus .pressed));
-          }))
+      pub new-side : Side then k false
+      unfolding writes
+      new-side =
+          side-by then refl (same-queue h s desk ok) k refl
+          (subst (λ (x : Cell). Shows x false) (sym (writes-more (sheetOf then) k [] (cellAt then k) (apart fits))) new-shows) (new-moved h s desk ok k new-own long)
+
+    pub new-opposed : (c d : ℕ) → placeOf (then .codes) p c < nowhere → placeOf (then .codes) p d < nowhere
+        → Opposed then (placeOf (then .codes) p c) (placeOf (then .codes) p d)
+    unfolding Never
+    new-opposed c d at-c at-d =
+        opposed-by then refl (same-queue h s desk ok) (k c at-c) (k d at-d) refl refl
+        (never-more (sheetOf then) (k c at-c) (k d at-d) [] (cellAt then (k c at-c)) (cellAt then (k d at-d)) (apart c at-c fits) (apart d at-d fits)
+        (rw (new-shows c at-c .pressed)))

@@ -8,6 +8,7 @@ use native.Mathlib.Omega.{arith}
 use borrow.Author.Tests.{eqb-true}
 use Rattle.rules.specs.Names.{isAxis, isButton, isHat, dpadX, dpadY, codeUp, codeDown, codeLeft, codeRight, unknownAxis, positiveCode, negativeCode}
 use Rattle.rules.specs.Dispatch.{axisName}
+use Rattle.history.specs.Rule.{directionCode}
 use Rattle.history.specs.Waits.{Sheet, takes}
 use Rattle.history.specs.Truth.{false-true}
 
@@ -37,7 +38,7 @@ takes-hat s p n e = by (getD (s .converts) p false) (isHat n) e
     by true b e = e
     by false b e = false-true e
 
--- different hats have different directions: a hat's code tells which of the two it is
+-- two codes that differ tell which of the two hats they are of
 same-hat : (a b : ℕ) → (a ≡ b → ⊥) → (m n : ℕ) → isHat m ≡ true → isHat n ≡ true → cond (eqb m dpadX) a b ≡ cond (eqb n dpadX) a b → m ≡ n
 unfolding isHat
 same-hat a b differ m n em en same = by (eqb m dpadX) (eqb m dpadY) (eqb n dpadX) (eqb n dpadY) refl refl refl refl em en same
@@ -51,15 +52,7 @@ same-hat a b differ m n em en same = by (eqb m dpadX) (eqb m dpadY) (eqb n dpadX
     by false true false false emx emy enx eny em en s = false-true en
     by false false nx ny emx emy enx eny em en s = false-true em
 
-pub plus-name : (m n : ℕ) → isHat m ≡ true → isHat n ≡ true → positiveCode m ≡ positiveCode n → m ≡ n
-unfolding positiveCode
-plus-name m n em en same = same-hat codeRight codeUp (λ e. omega arith) m n em en same
-
-pub minus-name : (m n : ℕ) → isHat m ≡ true → isHat n ≡ true → negativeCode m ≡ negativeCode n → m ≡ n
-unfolding negativeCode
-minus-name m n em en same = same-hat codeLeft codeDown (λ e. omega arith) m n em en same
-
--- and no hat's positive direction is a negative one
+-- no hat's positive direction is a negative one
 pub cross : (m n : ℕ) → positiveCode m ≡ negativeCode n → ⊥
 unfolding positiveCode negativeCode
 cross m n same = by (eqb m dpadX) (eqb n dpadX) same
@@ -69,6 +62,14 @@ cross m n same = by (eqb m dpadX) (eqb n dpadX) same
     by true false s = omega arith
     by false true s = omega arith
     by false false s = omega arith
+
+-- a direction's code tells the hat that it is of
+pub code-hat : (a b : Bool) (m n : ℕ) → isHat m ≡ true → isHat n ≡ true → directionCode a m ≡ directionCode b n → m ≡ n
+unfolding positiveCode negativeCode
+code-hat true true m n em en same = same-hat codeRight codeUp (λ e. omega arith) m n em en same
+code-hat true false m n em en same = absurd (cross m n same)
+code-hat false true m n em en same = absurd (cross n m (sym same))
+code-hat false false m n em en same = same-hat codeLeft codeDown (λ e. omega arith) m n em en same
 
 -- an element's axis name is a hat's only where its name is
 pub axis-hat : (n : ℕ) → isHat (axisName n) ≡ true → axisName n ≡ n

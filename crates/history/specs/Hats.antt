@@ -1,322 +1,316 @@
--- A record that is taken, and the two directions of a hat on a pad that takes it for them: one that joins the pad clears both, a move of the hat presses what
--- its value says, and any other record leaves both. Assumes nothing.
+-- A record that is taken, and the directions of a hat on a pad that takes it for them: one that joins the pad clears them, a move of the hat presses what its
+-- value says, and any other record leaves them. Of a direction only that its own code is unlisted: the opposite one may be an element, even the hat itself.
 use Prim.Native.Nat.{ℕ, _/_, _<_}
 use mathlib.Core.Bool.{Bool, true, false, cond, not, _&&_}
 use mathlib.Core.List.{List, []}
 use mathlib.Core.Logic.{_⊎_, inl, inr}
-use mathlib.Core.Path.{_≡_, refl, sym, _∙_, ap, subst}
+use mathlib.Core.Path.{_≡_, refl, sym, _∙_, ap, subst, subst₂}
 use lib.Dec.{eqb}
 use lib.Ieee.{Float, eq}
 use lib.ListN.{getD}
-use native.Mathlib.Omega.{arith}
 use borrow.Author.Tests.{eqb-true, eq-eqb, ne-eqb}
 use Rattle.numbers.specs.Constants.{one32, minusOne32}
 use Rattle.numbers.specs.Scale.{axisScaledOf}
 use Rattle.rules.specs.declared.Hub.{Hub}
 use Rattle.rules.specs.declared.Event.{Event}
-use Rattle.rules.specs.declared.EventType.the-variants.{Axis, Connected, Disconnected}
+use Rattle.rules.specs.declared.EventType.the-variants.{Axis}
 use Rattle.rules.specs.declared.RawRecord.{RawRecord}
+use Rattle.rules.specs.declared.Element.{Element}
 use Rattle.rules.specs.declared.View.{View}
 use Rattle.rules.specs.declared.Dispatched.{Dispatched}
 use Rattle.rules.specs.declared.Gives.{Gives}
 use Rattle.rules.specs.Names.{nowhere, noName, placesPerPad, isHat, isY, positiveCode, negativeCode, positiveName, negativeName}
-use Rattle.rules.specs.Sheets.{elementAxis, elementButton}
 use Rattle.rules.specs.Forms.{kindPressed, kindAxis}
 use Rattle.rules.specs.Places.{placeOf}
-use Rattle.rules.specs.Events.{queuedOf}
+use Rattle.rules.specs.Events.{queuedOf, nameOf}
 use Rattle.rules.specs.State.{readPressed}
-use Rattle.rules.specs.Dispatch.{pressing, moving, joining, leaving, moveOf, axisName, amount, from, single, pressGives, moveGives, dispatchBy}
+use Rattle.rules.specs.Dispatch.{pressing, moving, joining, leaving, moveOf, axisName, amount, from, single, pressGives, moveGives}
 use Rattle.rules.specs.Filters.{hatBy, hatGives}
-use Rattle.rules.specs.Hub.{placeIn, elementAt, pressedAt, movedAt, hatPlace, viewAt, viewOf}
+use Rattle.rules.specs.Hub.{placeIn, elementAt, pastElement, pressedAt, movedAt, hatPlace, viewAt, viewOf}
 use Rattle.rules.specs.Step.{takenOf, markedOf, recordKind, stepHub}
 use Rattle.promises.specs.Waiting.{waitingList}
 use Rattle.promises.specs.Queue.{Sound}
 use Rattle.pad.specs.Lookup.{place-stands}
 use Rattle.registered.specs.Pads.{Desk}
-use Rattle.history.specs.Rule.{rejoins, speaks}
+use Rattle.history.specs.Rule.{rejoins, speaks, directionCode, pressingValue}
 use Rattle.history.specs.Cells.{Cell, cellAt, cellPressed}
-use Rattle.history.specs.Turns.{outOf, moreOf, hat-out, hat-more}
+use Rattle.history.specs.Turns.{outOf, hat-out, hat-more}
 use Rattle.history.specs.Steps.{Ready, lookAt}
 use Rattle.history.specs.Waits.{Sheet, sheetOf, takes}
-use Rattle.history.specs.Exact.{putAt, movesAt}
+use Rattle.history.specs.Exact.{putAt}
 use Rattle.history.specs.Views.{sees}
 use Rattle.history.specs.Accepted.{Good}
 use Rattle.history.specs.Take.{queueOf, Spares, taken-as}
 use Rattle.history.specs.Other.{Clear, move-aside, join-aside, leave-aside}
-use Rattle.history.specs.Records.{none-waits, cell-same, moved-same, cell-off, moved-off, moving-kind, apart-by, joins-move}
-use Rattle.history.specs.Concerned.{press-move, spoken-small}
+use Rattle.history.specs.Records.{none-waits, cell-same, moved-same, cell-off, moved-off, silent-move, apart-by, joins-move, axis-kind}
+use Rattle.history.specs.Concerned.{press-move, spoken-listed}
 use Rattle.history.specs.Written.{writes, Never, writes-more, never-now, never-more}
-use Rattle.history.specs.Sides.{Shows, Sides, Plain, take-sides}
-use Rattle.history.specs.Hat.{Turns, hat-turns}
-use Rattle.history.specs.HatNames.{hat-axis, hat-button, takes-hat, plus-name, minus-name, cross, axis-hat}
+use Rattle.history.specs.Sides.{Shows, Side, Opposed, Plain, Turn, viewBy, outBy, queueBy, taken-side, taken-opposed}
+use Rattle.history.specs.Hat.{hat-turn, hat-never}
+use Rattle.history.specs.HatNames.{hat-axis, hat-button, takes-hat, code-hat, cross, axis-hat}
+use Rattle.history.specs.Presses.{presses}
+use Rattle.history.specs.Truth.{false-true, true-false}
 
--- a registered pad that takes the axis of this name for its directions, and lists neither of them
-pub record Axle (h : Hub) (p n : ℕ) : Type 0 where
-  pub pad : p < h .pads
-  pub takes : takes (sheetOf h) p n ≡ true
-  pub plus : Plain (sheetOf h) (placeOf (h .codes) p (positiveCode n))
-  pub minus : Plain (sheetOf h) (placeOf (h .codes) p (negativeCode n))
-  pub no-plus : getD (h .kinds) (placeOf (h .codes) p (positiveCode n)) 0 ≡ 0
-  pub no-minus : getD (h .kinds) (placeOf (h .codes) p (negativeCode n)) 0 ≡ 0
+-- a direction that its pad's sheet does not list, of a hat that the pad takes for its directions
+pub record Unlisted (s : Sheet) (p n : ℕ) (positive : Bool) : Type 0 where
+  pub pad : p < s .pads
+  pub takes : takes s p n ≡ true
+  pub plain : Plain s (placeOf (s .codes) p (directionCode positive n))
+  pub none : getD (s .kinds) (placeOf (s .codes) p (directionCode positive n)) 0 ≡ 0
 
-module _ (h : Hub) (w : Ready h) (desk : Desk h) (sound : Sound h) (p n : ℕ) (ax : Axle h p n) (r : RawRecord) (ok : Good h r) (none : h .waiting ≡ 0) where
+-- what a pad's sheet says of its codes
+pub record Sheeted (s : Sheet) (p : ℕ) (nameOf : ℕ → ℕ) (elementOf : ℕ → Element) : Type 0 where
+  pub name : (c : ℕ) → placeOf (s .codes) p c < nowhere → getD (s .names) (placeOf (s .codes) p c) noName ≡ nameOf c
+  pub element : (c : ℕ) → placeOf (s .codes) p c < nowhere → getD (s .elements) (placeOf (s .codes) p c) pastElement ≡ elementOf c
+
+-- the name of a record's element
+abbrev pub nameBy : Hub → RawRecord → ℕ
+nameBy h r = getD (h .names) (placeOf (h .codes) (r .pad) (r .code)) noName
+
+-- whether a record moves the pad's hat of this name
+abbrev pub turns : Hub → ℕ → ℕ → RawRecord → Bool
+turns h p n r = eqb (r .pad) p && (speaks (r .kind) && eqb (nameBy h r) n)
+
+pub record Moves (h : Hub) (p n : ℕ) (r : RawRecord) : Type 0 where
+  pub pad : r .pad ≡ p
+  pub spoken : speaks (r .kind) ≡ true
+  pub is : nameBy h r ≡ n
+
+pub moves : (h : Hub) (p n : ℕ) (r : RawRecord) → turns h p n r ≡ true → Moves h p n r
+moves h p n r t = by (eqb (r .pad) p) (speaks (r .kind)) (eqb (nameBy h r) n) refl refl refl t
+  where
+    by : (a b c : Bool) → eqb (r .pad) p ≡ a → speaks (r .kind) ≡ b → eqb (nameBy h r) n ≡ c → (a && (b && c)) ≡ true → Moves h p n r
+    by true true true a b c e = record { pad = eqb-true (r .pad) p a; spoken = b; is = eqb-true (nameBy h r) n c }
+    by true true false a b c e = false-true e
+    by true false same a b c e = false-true e
+    by false spoken same a b c e = false-true e
+
+-- its value as it is dispatched
+abbrev pub turnsTo : ℕ → Bool → Element → RawRecord → Float
+turnsTo n reversed el r =
+    cond (eqb (r .kind) kindAxis) (axisScaledOf (el .low) (el .range) (el .odd) (reversed && isY n) (r .value)) (amount (eqb (r .kind) kindPressed))
+
+module _ (h : Hub) (w : Ready h) (desk : Desk h) (sound : Sound h) (p n : ℕ) (r : RawRecord) (ok : Good h r) (none : h .waiting ≡ 0) where
   abbrev s : Sheet
   s = sheetOf h
-
-  abbrev j : ℕ
-  j = placeOf (h .codes) p (positiveCode n)
-
-  abbrev k : ℕ
-  k = placeOf (h .codes) p (negativeCode n)
 
   abbrev at : ℕ
   at = placeOf (h .codes) (r .pad) (r .code)
 
-  abbrev After : Bool → Bool → Type 0
-  After a b = Sides (sheetOf (stepHub h (lookAt r))) (stepHub h (lookAt r)) j k (waitingList (stepHub h (lookAt r))) a b
-
-  plus-own : j / placesPerPad ≡ p
-  plus-own = place-stands (h .codes) p (positiveCode n) (ax .plus .inside) .own
-
-  minus-own : k / placesPerPad ≡ p
-  minus-own = place-stands (h .codes) p (negativeCode n) (ax .minus .inside) .own
+  abbrev seen : Hub
+  seen = markedOf h r
 
   abbrev see : Event → View
-  see e = viewOf (markedOf h r) e
+  see e = viewOf seen e
 
-  -- what the two places hold once the record has set its marks
-  pub record Held (a b : Bool) : Type 0 where
-    pub plus : Shows (cellAt (markedOf h r) j) a
-    pub minus : Shows (cellAt (markedOf h r) k) b
-    pub plus-still : movedAt (markedOf h r) j ≡ false
-    pub minus-still : movedAt (markedOf h r) k ≡ false
-    pub apart : (cellPressed (cellAt (markedOf h r) j) && cellPressed (cellAt (markedOf h r) k)) ≡ false
+  abbrev gives : Dispatched
+  gives = takenOf h (lookAt r)
 
-  -- a record that leaves both alone
-  spare-sides : (a b : Bool) → Held a b → (d : Dispatched) → takenOf h (lookAt r) ≡ d → Spares s j d (see (d .event)) → Spares s k d (see (d .event)) → After a b
-  unfolding writes
-  spare-sides a b held d taken pj pk =
-      let v = see (d .event) in
-      let o = outOf v (d .event) in
-      let xj = cellAt (markedOf h r) j in
-      let xk = cellAt (markedOf h r) k in
-      let wj : writes s j (queueOf d v) (putAt s j o xj) ≡ xj = ap (λ (x : Cell). writes s j (queueOf d v) x) (pj .cell xj) ∙ writes-more s j [] xj (pj .queue) in
-      let wk : writes s k (queueOf d v) (putAt s k o xk) ≡ xk = ap (λ (x : Cell). writes s k (queueOf d v) x) (pk .cell xk) ∙ writes-more s k [] xk (pk .queue) in
-      take-sides h w sound r none d taken j k (ax .plus .inside) (ax .minus .inside) (held .plus-still) (held .minus-still) (pj .still) (pk .still) a b
-      (subst (λ (x : Cell). Shows x a) (sym wj) (held .plus)) (subst (λ (x : Cell). Shows x b) (sym wk) (held .minus))
-      (subst (λ (x : Cell). Never s j k (queueOf d v) x (putAt s k o xk)) (sym (pj .cell xj))
-      (subst (λ (y : Cell). Never s j k (queueOf d v) xj y) (sym (pk .cell xk))
-      (never-more s j k [] xj xk (pj .queue) (pk .queue) (unfold Never in held .apart))))
+  abbrev after : Hub
+  after = stepHub h (lookAt r)
 
-  -- ---- a record that joins the pad
+  -- the place of a direction, and what it holds once the record has set its marks
+  abbrev place : Bool → ℕ
+  place positive = placeOf (h .codes) p (directionCode positive n)
 
-  off-shows : (i : ℕ) → i / placesPerPad ≡ p → i < nowhere → rejoins p r ≡ true → Shows (cellAt (markedOf h r) i) false
-  unfolding cellAt
-  off-shows i own inside e =
-      let off = cell-off h r w p i own inside e in
-      record { pressed = rw off; value = rw off }
+  abbrev cell : Bool → Cell
+  cell positive = cellAt seen (place positive)
 
-  pub joined-sides : rejoins p r ≡ true → After false false
-  joined-sides e =
-      let plus = off-shows j plus-own (ax .plus .inside) e in
-      spare-sides false false
-      (record {
-        plus = plus;
-        minus = off-shows k minus-own (ax .minus .inside) e;
-        plus-still = moved-off h r w p j plus-own (ax .plus .inside) e;
-        minus-still = moved-off h r w p k minus-own (ax .minus .inside) e;
-        apart = rw (plus .pressed);
-      })
-      (single (from r Connected)) (taken-as h r w none joining (joins-move p r e)) (join-aside s j (ax .plus .bare) r (ok .pad) see (λ e. sees h r w desk e))
-      (join-aside s k (ax .minus .bare) r (ok .pad) see (λ e. sees h r w desk e))
+  -- ---- a move of the hat
 
-  -- ---- any other
+  module _ (hat : takes s p n ≡ true) (m : Moves h p n r) where
+    is-hat : isHat n ≡ true
+    is-hat = takes-hat s p n hat
 
-  module _ (a b : Bool) (t : Sides s h j k (waitingList h) a b) (away : rejoins p r ≡ false) where
-    plus-same : cellAt (markedOf h r) j ≡ cellAt h j
-    plus-same = cell-same h r w p j plus-own (ax .plus .inside) away
+    abbrev to : Float
+    to = turnsTo n (h .reversed) (elementAt h at) r
 
-    minus-same : cellAt (markedOf h r) k ≡ cellAt h k
-    minus-same = cell-same h r w p k minus-own (ax .minus .inside) away
+    abbrev e : Event
+    e = from r (Axis n (r .code) to)
 
-    written : (i : ℕ) → writes s i (waitingList h) (cellAt h i) ≡ cellAt h i
+    given-by : (value : Bool) → eqb (r .kind) kindAxis ≡ value → gives ≡ single e
+    unfolding moveGives pressGives axisName moveOf
+    given-by true is-value =
+        taken-as h r w none moving (rw (eqb-true (r .kind) kindAxis is-value)) ∙ rw (m .is, hat-button n is-hat, hat-axis n is-hat, is-value)
+    given-by false is-press =
+        taken-as h r w none (pressing (eqb (r .kind) kindPressed)) (unfold moveOf in press-move (r .kind) (m .spoken) is-press)
+        ∙ rw (m .is, hat-axis n is-hat, is-press)
+
+    converts : (see e .converts && isHat n) ≡ true
+    unfolding takes
+    converts =
+        ap (λ (c : Bool). c && isHat n) (sees h r w desk e .converts) ∙ (ap (λ (q : ℕ). getD (h .converts) q false && isHat n) (m .pad) ∙ hat)
+
+    -- the conversion, by what the two directions read
+    abbrev made : Gives
+    made =
+        hatBy (eq to one32) (eq to minusOne32) (see e .positive) (see e .negative) e (record { name = positiveName n; code = positiveCode n })
+        (record { name = negativeName n; code = negativeCode n })
+
+    -- its events are what goes out and what is queued
+    made-as : (P : Event → List Event → Type 0) → P (made .event) (queuedOf made) → P (outBy h r) (queueBy h r)
+    unfolding hatGives
+    made-as P t =
+        subst (λ (d : Dispatched). P (outOf (see (d .event)) (d .event)) (queueOf d (see (d .event)))) (sym (given-by (eqb (r .kind) kindAxis) refl))
+        (subst₂ P (sym (hat-out (see e) (r .pad) (r .time) n (r .code) to converts)) (sym (hat-more (see e) (r .pad) (r .time) n (r .code) to converts)) t)
+
+    read : (c : ℕ) → pressedAt seen (hatPlace seen (r .pad) n c) ≡ cellPressed (cellAt seen (placeOf (h .codes) p c))
+    unfolding hatPlace pressedAt readPressed cellAt
+    read c =
+        ap (λ (is-hat : Bool). pressedAt seen (cond is-hat (placeIn seen (r .pad) c) nowhere)) is-hat
+        ∙ (ap (λ (q : ℕ). pressedAt seen (placeIn seen q c)) (m .pad) ∙ (unfold markedOf in refl))
+
+    reads : (positive : Bool) → cond positive (see e .positive) (see e .negative) ≡ cellPressed (cell positive)
+    unfolding viewOf viewAt nameOf
+    reads true = read (positiveCode n)
+    reads false = read (negativeCode n)
+
+    -- of which direction an event of either code is
+    on-own : (c : ℕ) → eqb (placeOf (h .codes) (r .pad) c) (placeOf (h .codes) p c) ≡ true
+    on-own c = eq-eqb (placeOf (h .codes) (r .pad) c) (placeOf (h .codes) p c) (ap (λ (q : ℕ). placeOf (h .codes) q c) (m .pad))
+
+    on-other : (c d : ℕ) → placeOf (h .codes) p d < nowhere → (c ≡ d → ⊥) → eqb (placeOf (h .codes) (r .pad) c) (placeOf (h .codes) p d) ≡ false
+    on-other c d found differ =
+        apart-by (h .codes) p d (r .pad) c (eqb (placeOf (h .codes) (r .pad) c) (placeOf (h .codes) p d)) found refl (λ q same. differ same)
+
+    on-plus : (positive : Bool) → place positive < nowhere → eqb (placeOf (h .codes) (r .pad) (positiveCode n)) (place positive) ≡ positive
+    on-plus true found = on-own (positiveCode n)
+    on-plus false found = on-other (positiveCode n) (negativeCode n) found (cross n n)
+
+    on-minus : (positive : Bool) → place positive < nowhere → eqb (placeOf (h .codes) (r .pad) (negativeCode n)) (place positive) ≡ not positive
+    on-minus true found = on-other (negativeCode n) (positiveCode n) found (λ same. cross n n (sym same))
+    on-minus false found = on-own (negativeCode n)
+
+    move-turn : (positive : Bool) → place positive < nowhere → (b : Bool) → Shows (cell positive) b
+        → Turn s (place positive) (outBy h r) (queueBy h r) (cell positive) (eq to (pressingValue positive))
+    move-turn positive found b shows =
+        made-as (λ (out : Event) (q : List Event). Turn s (place positive) out q (cell positive) (eq to (pressingValue positive)))
+        (subst (Turn s (place positive) (made .event) (queuedOf made) (cell positive)) (presses positive to)
+        (hat-turn s (r .pad) (r .time) n (r .code) to (positiveName n) (positiveCode n) (negativeName n) (negativeCode n) (place positive) positive
+        (on-plus positive found) (on-minus positive found) (eq to one32) (eq to minusOne32) (see e .positive) (see e .negative) (cell positive)
+        (subst (Shows (cell positive)) (sym (shows .pressed) ∙ sym (reads positive)) shows)))
+
+    move-never : place true < nowhere → place false < nowhere
+        → Never s (place true) (place false) (queueBy h r) (putAt s (place true) (outBy h r) (cell true)) (putAt s (place false) (outBy h r) (cell false))
+    move-never plus minus =
+        made-as
+        (λ (out : Event) (q : List Event).
+        Never s (place true) (place false) q (putAt s (place true) out (cell true)) (putAt s (place false) out (cell false)))
+        (hat-never s (r .pad) (r .time) n (r .code) to (positiveName n) (positiveCode n) (negativeName n) (negativeCode n) (place true) (place false)
+        (on-plus true plus) (on-minus true plus) (on-plus false minus) (on-minus false minus) (eq to one32) (eq to minusOne32) (see e .positive) (see e .negative)
+        (cell true) (cell false) (sym (reads true)) (sym (reads false)))
+
+  -- ---- one direction
+
+  module _ (positive : Bool) (u : Unlisted s p n positive) where
+    abbrev k : ℕ
+    k = place positive
+
+    own : k / placesPerPad ≡ p
+    own = place-stands (h .codes) p (directionCode positive n) (u .plain .inside) .own
+
+    abbrev Aside : Type 0
+    Aside = Spares s k gives (viewBy h r)
+
+    aside-as : {d : Dispatched} → gives ≡ d → Spares s k d (see (d .event)) → Aside
+    aside-as taken t = subst (λ (d : Dispatched). Spares s k d (see (d .event))) (sym taken) t
+
+    -- Connected and Disconnected leave it alone
+    silent-aside : (moveOf (r .kind) ≡ joining) ⊎ (moveOf (r .kind) ≡ leaving) → Aside
+    silent-aside (inl m) = aside-as (taken-as h r w none joining m) (join-aside s k (u .plain .bare) r (ok .pad) see (λ e. sees h r w desk e))
+    silent-aside (inr m) = aside-as (taken-as h r w none leaving m) (leave-aside s k (u .plain .bare) r (ok .pad) see (λ e. sees h r w desk e))
+
+    -- and so does a press, a release or a value of an element that is not the hat
+    module _ (spoken : speaks (r .kind) ≡ true) (other : turns h p n r ≡ false) where
+      -- its place is listed, and the direction's is not
+      elsewhere : eqb at k ≡ false
+      unfolding recordKind
+      elsewhere = ne-eqb at k (λ same. spoken-listed h r ok spoken (ap (λ (i : ℕ). getD (h .kinds) i 0) same ∙ u .none))
+
+      differs : r .pad ≡ p → nameBy h r ≡ n → ⊥
+      differs pad is = true-false (sym (rw (eq-eqb (r .pad) p pad, spoken, eq-eqb (nameBy h r) n is)) ∙ other)
+
+      -- a hat that the record's pad takes under the element's name is another one
+      clear-of : (m : ℕ) → (takes s (r .pad) m ≡ true → m ≡ nameBy h r) → (sign : Bool) → takes s (r .pad) m ≡ true
+          → eqb (placeOf (h .codes) (r .pad) (directionCode sign m)) k ≡ false
+      clear-of m is sign t =
+          apart-by (h .codes) p (directionCode positive n) (r .pad) (directionCode sign m) (eqb (placeOf (h .codes) (r .pad) (directionCode sign m)) k)
+          (u .plain .inside) refl
+          (λ pad same. differs pad (sym (is t) ∙ code-hat sign positive m n (takes-hat s (r .pad) m t) (takes-hat s p n (u .takes)) same))
+
+      clear : (m : ℕ) → (takes s (r .pad) m ≡ true → m ≡ nameBy h r) → Clear s k (r .pad) m
+      clear m is = record { plus = clear-of m is true; minus = clear-of m is false }
+
+      spoken-aside : Aside
+      spoken-aside =
+          let name = nameBy h r in
+          aside-as (taken-as h r w none (moveOf (r .kind)) refl)
+          (move-aside s k (u .plain .bare) r (ok .pad) see (λ e. sees h r w desk e) elsewhere name (clear name (λ t. refl))
+          (clear (axisName name) (λ t. axis-hat name (takes-hat s (r .pad) (axisName name) t))) refl (elementAt h at) (pressedAt h at) (h .pressed) (h .released)
+          (h .reversed) (moveOf (r .kind)) (axis-kind h r ok))
+
+    other-aside : turns h p n r ≡ false → Aside
+    other-aside other = by (speaks (r .kind)) refl
+      where
+        by : (spoken : Bool) → speaks (r .kind) ≡ spoken → Aside
+        by true spoken = spoken-aside spoken other
+        by false silent = silent-aside (silent-move (r .kind) silent)
+
+    spared-side : (b : Bool) → Shows (cell positive) b → movedAt seen k ≡ false → Aside → Side after k b
     unfolding writes
-    written i = ap (λ (q : List Event). writes s i q (cellAt h i)) (none-waits h none)
+    spared-side b shows still a =
+        taken-side h w sound r none k (u .plain .inside) b still
+        (record { shows = rw (a .cell (cell positive), writes-more s k [] (cell positive) (a .queue)) shows; still = a .still })
 
-    held : Held a b
-    held =
-        record {
-          plus = subst (λ (x : Cell). Shows x a) (written j ∙ sym plus-same) (t .plus);
-          minus = subst (λ (x : Cell). Shows x b) (written k ∙ sym minus-same) (t .minus);
-          plus-still = moved-same h r w p j plus-own (ax .plus .inside) away ∙ t .plus-still;
-          minus-still = moved-same h r w p k minus-own (ax .minus .inside) away ∙ t .minus-still;
-          apart =
-              ap (λ (x : Cell). cellPressed x && cellPressed (cellAt (markedOf h r) k)) plus-same
-              ∙ (ap (λ (y : Cell). cellPressed (cellAt h j) && cellPressed y) minus-same
-              ∙ never-now s j k (waitingList h) (cellAt h j) (cellAt h k) (t .never));
-        }
+    -- a record that joins the pad
+    joined-shows : rejoins p r ≡ true → Shows (cell positive) false
+    unfolding cellAt
+    joined-shows e =
+        let off = cell-off h r w p k own (u .plain .inside) e in
+        record { pressed = rw off; value = rw off }
 
-    -- Connected of another pad, and Disconnected
-    pub silent-sides : (moveOf (r .kind) ≡ joining) ⊎ (moveOf (r .kind) ≡ leaving) → After a b
-    silent-sides (inl m) =
-        spare-sides a b held (single (from r Connected)) (taken-as h r w none joining m) (join-aside s j (ax .plus .bare) r (ok .pad) see (λ e. sees h r w desk e))
-        (join-aside s k (ax .minus .bare) r (ok .pad) see (λ e. sees h r w desk e))
-    silent-sides (inr m) =
-        spare-sides a b held (single (from r Disconnected)) (taken-as h r w none leaving m) (leave-aside s j (ax .plus .bare) r (ok .pad) see (λ e. sees h r w desk e))
-        (leave-aside s k (ax .minus .bare) r (ok .pad) see (λ e. sees h r w desk e))
+    joined-aside : rejoins p r ≡ true → Aside
+    joined-aside e = silent-aside (inl (joins-move p r e))
 
-    abbrev name : ℕ
-    name = getD (h .names) at noName
+    pub joined-side : rejoins p r ≡ true → Side after k false
+    joined-side e = spared-side false (joined-shows e) (moved-off h r w p k own (u .plain .inside) e) (joined-aside e)
 
-    -- a press, a release or a value of an element that is not the hat
-    module _ (spoken : speaks (r .kind) ≡ true) (other : r .pad ≡ p → name ≡ n → ⊥) where
-      -- its place is listed, and the directions are not
-      listed : getD (h .kinds) at 0 ≡ 0 → ⊥
-      unfolding recordKind
-      listed zero = by (eqb (r .kind) kindAxis) (sym (ok .element (spoken-small (r .kind) spoken)) ∙ zero)
-        where
-          by : (value : Bool) → _≡_ {A = ℕ} (cond value elementAxis elementButton) 0 → ⊥
-          by true e = omega arith
-          by false e = omega arith
+    -- any other
+    module _ (away : rejoins p r ≡ false) where
+      same : cell positive ≡ cellAt h k
+      same = cell-same h r w p k own (u .plain .inside) away
 
-      elsewhere : (c : ℕ) → placeOf (h .codes) p c < nowhere → getD (h .kinds) (placeOf (h .codes) p c) 0 ≡ 0 → eqb at (placeOf (h .codes) p c) ≡ false
-      elsewhere c found kind =
-          ne-eqb at (placeOf (h .codes) p c) (λ same. listed (ap (λ (i : ℕ). getD (h .kinds) i 0) same ∙ kind))
+      module _ (b : Bool) (t : Side h k b) where
+        shows : Shows (cell positive) b
+        unfolding writes
+        shows = subst₂ (λ (q : List Event) (x : Cell). Shows (writes s k q x) b) (none-waits h none) (sym same) (t .shows)
 
-      -- a hat that the record's pad takes under this name is another one
-      differs : (m : ℕ) → m ≡ name → takes s (r .pad) m ≡ true → r .pad ≡ p → m ≡ n → ⊥
-      differs m is t pad same = other pad (sym is ∙ same)
+        still : movedAt seen k ≡ false
+        still = moved-same h r w p k own (u .plain .inside) away ∙ t .still
 
-      clear-plus : (m : ℕ) → (takes s (r .pad) m ≡ true → m ≡ name) → Clear s j (r .pad) m
-      clear-plus m is =
-          record {
-            plus =
-                λ t.
-                apart-by (h .codes) p (positiveCode n) (r .pad) (positiveCode m) (eqb (placeOf (h .codes) (r .pad) (positiveCode m)) j) (ax .plus .inside) refl
-                (λ pad same. differs m (is t) t pad (plus-name m n (takes-hat s (r .pad) m t) (takes-hat s p n (ax .takes)) same));
-            minus =
-                λ t.
-                apart-by (h .codes) p (positiveCode n) (r .pad) (negativeCode m) (eqb (placeOf (h .codes) (r .pad) (negativeCode m)) j) (ax .plus .inside) refl
-                (λ pad same. cross n m (sym same));
-          }
+        pub other-side : turns h p n r ≡ false → Side after k b
+        other-side other = spared-side b shows still (other-aside other)
 
-      clear-minus : (m : ℕ) → (takes s (r .pad) m ≡ true → m ≡ name) → Clear s k (r .pad) m
-      clear-minus m is =
-          record {
-            plus =
-                λ t.
-                apart-by (h .codes) p (negativeCode n) (r .pad) (positiveCode m) (eqb (placeOf (h .codes) (r .pad) (positiveCode m)) k) (ax .minus .inside) refl
-                (λ pad same. cross m n same);
-            minus =
-                λ t.
-                apart-by (h .codes) p (negativeCode n) (r .pad) (negativeCode m) (eqb (placeOf (h .codes) (r .pad) (negativeCode m)) k) (ax .minus .inside) refl
-                (λ pad same. differs m (is t) t pad (minus-name m n (takes-hat s (r .pad) m t) (takes-hat s p n (ax .takes)) same));
-          }
+        pub turned-side : turns h p n r ≡ true → Side after k (eq (turnsTo n (h .reversed) (elementAt h at) r) (pressingValue positive))
+        turned-side t = taken-side h w sound r none k (u .plain .inside) _ still (move-turn (u .takes) (moves h p n r t) positive (u .plain .inside) b shows)
 
-      axis-is : takes s (r .pad) (axisName name) ≡ true → axisName name ≡ name
-      axis-is t = axis-hat name (takes-hat s (r .pad) (axisName name) t)
+  -- ---- both
 
-      kind : moveOf (r .kind) ≡ moving → getD (h .kinds) at 0 ≡ elementAxis
-      unfolding recordKind
-      kind m = ok .element (omega (arith, moving-kind (r .kind) m)) ∙ rw (moving-kind (r .kind) m)
+  module _ (u : Unlisted s p n true) (v : Unlisted s p n false) where
+    spared-opposed : Aside true u → Aside false v → (cellPressed (cell true) && cellPressed (cell false)) ≡ false → Opposed after (place true) (place false)
+    unfolding Never
+    spared-opposed a b apart =
+        taken-opposed h w sound r none (place true) (place false) (u .plain .inside) (v .plain .inside)
+        (rw (a .cell (cell true), b .cell (cell false)) (never-more s (place true) (place false) [] (cell true) (cell false) (a .queue) (b .queue) apart))
 
-      pub other-sides : After a b
-      other-sides =
-          let m = moveOf (r .kind) in
-          let el = elementAt h at in
-          let down = pressedAt h at in
-          spare-sides a b held (dispatchBy m r name el down (h .pressed) (h .released) (h .reversed)) (taken-as h r w none m refl)
-          (move-aside s j (ax .plus .bare) r (ok .pad) see (λ e. sees h r w desk e) (elsewhere (positiveCode n) (ax .plus .inside) (ax .no-plus)) name (clear-plus name (λ t. refl)) (clear-plus (axisName name) axis-is) refl el down (h .pressed) (h .released) (h .reversed) m kind)
-          (move-aside s k (ax .minus .bare) r (ok .pad) see (λ e. sees h r w desk e) (elsewhere (negativeCode n) (ax .minus .inside) (ax .no-minus)) name (clear-minus name (λ t. refl)) (clear-minus (axisName name) axis-is) refl el down (h .pressed) (h .released) (h .reversed) m kind)
-
-    -- a move of the hat
-    module _ (spoken : speaks (r .kind) ≡ true) (pad : r .pad ≡ p) (is : name ≡ n) where
-      -- its value as it is dispatched
-      abbrev pub moved-to : Float
-      moved-to =
-          cond (eqb (r .kind) kindAxis)
-          (axisScaledOf (elementAt h at .low) (elementAt h at .range) (elementAt h at .odd) (h .reversed && isY n) (r .value))
-          (amount (eqb (r .kind) kindPressed))
-
-      hat : isHat n ≡ true
-      hat = takes-hat s p n (ax .takes)
-
-      abbrev e : Event
-      e = from r (Axis n (r .code) moved-to)
-
-      given-by : (value : Bool) → eqb (r .kind) kindAxis ≡ value → takenOf h (lookAt r) ≡ single e
-      unfolding moveGives pressGives axisName moveOf
-      given-by true is-value =
-          taken-as h r w none moving (rw (eqb-true (r .kind) kindAxis is-value)) ∙ rw (is, hat-button n hat, hat-axis n hat, is-value)
-      given-by false is-press =
-          taken-as h r w none (pressing (eqb (r .kind) kindPressed)) (unfold moveOf in press-move (r .kind) spoken is-press) ∙ rw (is, hat-axis n hat, is-press)
-
-      taken : takenOf h (lookAt r) ≡ single e
-      taken = given-by (eqb (r .kind) kindAxis) refl
-
-      abbrev v : View
-      v = see e
-
-      converts : (v .converts && isHat n) ≡ true
-      unfolding takes
-      converts =
-          ap (λ (c : Bool). c && isHat n) (sees h r w desk e .converts) ∙ (ap (λ (q : ℕ). getD (h .converts) q false && isHat n) pad ∙ ax .takes)
-
-      -- the conversion reads the two directions
-      positive : v .positive ≡ a
-      unfolding viewOf viewAt hatPlace pressedAt readPressed cellAt
-      positive =
-          ap (λ (is-hat : Bool). pressedAt (markedOf h r) (cond is-hat (placeIn (markedOf h r) (r .pad) (positiveCode n)) nowhere)) hat
-          ∙ (ap (λ (q : ℕ). pressedAt (markedOf h r) (placeIn (markedOf h r) q (positiveCode n))) pad ∙ (unfold markedOf in held .plus .pressed))
-
-      negative : v .negative ≡ b
-      unfolding viewOf viewAt hatPlace pressedAt readPressed cellAt
-      negative =
-          ap (λ (is-hat : Bool). pressedAt (markedOf h r) (cond is-hat (placeIn (markedOf h r) (r .pad) (negativeCode n)) nowhere)) hat
-          ∙ (ap (λ (q : ℕ). pressedAt (markedOf h r) (placeIn (markedOf h r) q (negativeCode n))) pad ∙ (unfold markedOf in held .minus .pressed))
-
-      abbrev made : Gives
-      made =
-          hatBy (eq moved-to one32) (eq moved-to minusOne32) a b e (record { name = positiveName n; code = positiveCode n })
-          (record { name = negativeName n; code = negativeCode n })
-
-      gives : hatGives v e n moved-to ≡ made
-      unfolding hatGives
-      gives =
-          ap
-          (λ (up : Bool).
-          hatBy (eq moved-to one32) (eq moved-to minusOne32) up (v .negative) e (record { name = positiveName n; code = positiveCode n })
-          (record { name = negativeName n; code = negativeCode n }))
-          positive
-          ∙ ap
-          (λ (down : Bool).
-          hatBy (eq moved-to one32) (eq moved-to minusOne32) a down e (record { name = positiveName n; code = positiveCode n })
-          (record { name = negativeName n; code = negativeCode n }))
-          negative
-
-      out : outOf v e ≡ made .event
-      out = hat-out v (r .pad) (r .time) n (r .code) moved-to converts ∙ ap (λ (g : Gives). g .event) gives
-
-      queue : moreOf v e ≡ queuedOf made
-      queue = hat-more v (r .pad) (r .time) n (r .code) moved-to converts ∙ ap queuedOf gives
-
-      -- which of the two an event of either code is of
-      on-own : (c : ℕ) → eqb (placeOf (h .codes) (r .pad) c) (placeOf (h .codes) p c) ≡ true
-      on-own c = eq-eqb (placeOf (h .codes) (r .pad) c) (placeOf (h .codes) p c) (ap (λ (q : ℕ). placeOf (h .codes) q c) pad)
-
-      turns : Turns s j k (made .event) (queuedOf made) (cellAt (markedOf h r) j) (cellAt (markedOf h r) k) (eq moved-to one32) (not (eq moved-to one32) && eq moved-to minusOne32)
-      turns =
-          hat-turns s j k (r .pad) (r .time) n (r .code) moved-to (positiveName n) (positiveCode n) (negativeName n) (negativeCode n) (on-own (positiveCode n))
-          (apart-by (h .codes) p (positiveCode n) (r .pad) (negativeCode n) (eqb (placeOf (h .codes) (r .pad) (negativeCode n)) j) (ax .plus .inside) refl (λ q same. cross n n (sym same)))
-          (apart-by (h .codes) p (negativeCode n) (r .pad) (positiveCode n) (eqb (placeOf (h .codes) (r .pad) (positiveCode n)) k) (ax .minus .inside) refl (λ q same. cross n n same))
-          (on-own (negativeCode n)) (eq moved-to one32) (eq moved-to minusOne32) a b (cellAt (markedOf h r) j) (cellAt (markedOf h r) k) (held .plus) (held .minus)
-
-      pub hat-sides : After (eq moved-to one32) (not (eq moved-to one32) && eq moved-to minusOne32)
-      hat-sides =
-          let t = turns in
-          let xj = cellAt (markedOf h r) j in
-          let xk = cellAt (markedOf h r) k in
-          take-sides h w sound r none (single e) taken j k (ax .plus .inside) (ax .minus .inside) (held .plus-still) (held .minus-still)
-          (ap (λ (o : Event). movesAt s j o) out ∙ t .plus-still) (ap (λ (o : Event). movesAt s k o) out ∙ t .minus-still) (eq moved-to one32)
-          (not (eq moved-to one32) && eq moved-to minusOne32)
-          (rw (queue, out) (t .plus)) (rw (queue, out) (t .minus)) (rw (queue, out) (t .never))
+    pub record-opposed : Opposed h (place true) (place false) → Opposed after (place true) (place false)
+    record-opposed t = by (rejoins p r) (turns h p n r) refl refl
+      where
+        by : (joins moves : Bool) → rejoins p r ≡ joins → turns h p n r ≡ moves → Opposed after (place true) (place false)
+        by true moves j m = spared-opposed (joined-aside true u j) (joined-aside false v j) (rw (joined-shows true u j .pressed))
+        by false true j m =
+            taken-opposed h w sound r none (place true) (place false) (u .plain .inside) (v .plain .inside)
+            (move-never (u .takes) (moves h p n r m) (u .plain .inside) (v .plain .inside))
+        by false false j m =
+            spared-opposed (other-aside true u m) (other-aside false v m)
+            (rw (same true u j, same false v j) (never-now s (place true) (place false) (waitingList h) (cellAt h (place true)) (cellAt h (place false)) t))

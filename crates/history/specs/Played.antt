@@ -6,7 +6,7 @@ use mathlib.Core.List.{List, [], _∷_}
 use mathlib.Core.Path.{_≡_, refl, _∙_, ap}
 use lib.Dec.{eqb, ltb}
 use lib.Ieee.{Float}
-use lib.ListN.{length, getD, set, replicate, length-set}
+use lib.ListN.{length, set, length-set}
 use native.Mathlib.Omega.{arith}
 use Rattle.rules.specs.declared.Hub.{Hub}
 use Rattle.rules.specs.declared.Event.{Event}
@@ -15,7 +15,7 @@ use Rattle.rules.specs.declared.EventType.the-variants.{Repeated}
 use Rattle.rules.specs.declared.EventRead.{EventRead}
 use Rattle.rules.specs.declared.EventRead.the-variants as eventRead
 use Rattle.rules.specs.declared.RawRecord.{RawRecord}
-use Rattle.rules.specs.Names.{placesPerPad}
+use Rattle.rules.specs.Names.{padLimit, placesPerPad}
 use Rattle.rules.specs.Forms.{readEvent}
 use Rattle.rules.specs.Refusals.{thresholdsRefusal, recordRefusal, formRefusal}
 use Rattle.rules.specs.Events.{formEvent}
@@ -24,7 +24,7 @@ use Rattle.rules.specs.Step.{updatedOf, updatedAt, recordKind, stepHub}
 use Rattle.rules.specs.Calls.{freshHub, newBy, newOf, registerRefusal, registeredAt, registerBy, registerOf, formPlace, updateFormBy, updateBy, updateOf, countedAt, incOf, resetOf}
 use Rattle.promises.specs.Reach as reach
 use Rattle.promises.specs.Reach.{Reached}
-use Rattle.history.specs.Marks.{cleared-length}
+use Rattle.history.specs.Marks.{all-same, cleared-length}
 use Rattle.history.specs.Steps.{Ready, set-down, step-ready, look, lookAt}
 
 -- a held button's repeat, as bytes
@@ -60,11 +60,6 @@ reached (repeat bytes is w) = reach.update bytes (reached w)
 
 -- ---- filters and updates stay on, and no pad is renamed
 
-all-down : (n p : ℕ) → getD (replicate n false) p false ≡ false
-all-down zero p = refl
-all-down (suc n) zero = refl
-all-down (suc n) (suc p) = all-down n p
-
 fresh-ready : (pressed released : Float) (reversed : Bool) → Ready (freshHub pressed released reversed true true)
 unfolding freshHub
 fresh-ready pressed released reversed =
@@ -72,7 +67,7 @@ fresh-ready pressed released reversed =
       filters = refl;
       updates = refl;
       long = record { touched = refl; buttons = refl; moved = refl };
-      named = λ p. all-down 4 p;
+      named = λ p. all-same padLimit p false;
     }
 
 new-ready : (number : ℕ) (pressed released : Float) (reversed : Bool) → number ≡ 0

@@ -9,7 +9,7 @@ use lib.Dec.{eqb, ltb}
 use lib.Ieee.{Float, eq}
 use lib.ListN.{length, getD}
 use native.Mathlib.Omega.{arith}
-use borrow.Author.Tests.{eqb-true, eqb-false, ltb-true, ltb-false}
+use borrow.Author.Tests.{eqb-true, eqb-false, ne-eqb, ltb-true, ltb-false}
 use Rattle.numbers.specs.Constants.{zero32}
 use Rattle.rules.specs.declared.Hub.{Hub}
 use Rattle.rules.specs.declared.Event.{Event}
@@ -83,6 +83,11 @@ joins-move p r e =
     second true b e = e
     second false b e = false-true e
 
+-- a record of another pad does not join this one
+pub foreign-joins : (p : ℕ) (r : RawRecord) → (r .pad ≡ p → ⊥) → rejoins p r ≡ false
+unfolding rejoins
+foreign-joins p r other = rw (ne-eqb (r .pad) p other)
+
 -- ---- the marks of a place after a record
 
 module _ (h : Hub) (r : RawRecord) (w : Ready h) (p k : ℕ) (own : k / placesPerPad ≡ p) (inside : k < nowhere) where
@@ -152,6 +157,13 @@ apart-by codes p c q d true found e differ =
     absurd (differ (sym (same .0)) (sym (same .1)))
 apart-by codes p c q d false found e differ = refl
 
+-- the kind that a value's element has
+pub axis-kind : (h : Hub) (r : RawRecord) → Good h r → moveOf (r .kind) ≡ moving → getD (h .kinds) (placeOf (h .codes) (r .pad) (r .code)) 0 ≡ elementAxis
+unfolding recordKind
+axis-kind h r ok m =
+    let kind = moving-kind (r .kind) m in
+    ok .element (omega arith) ∙ rw kind
+
 module _ (P : Float → Type 0) (alike : (a b : Float) → P a → P b → eq a b ≡ true → a ≡ b) (zero-fits : P zero32) (h : Hub) (w : Ready h) (desk : Desk h)
     (sound : Sound h) (p c : ℕ) (pl : Place h p c) (r : RawRecord) (ok : Good h r) (none : h .waiting ≡ 0) where
   abbrev k : ℕ
@@ -169,13 +181,6 @@ module _ (P : Float → Type 0) (alike : (a b : Float) → P a → P b → eq a 
   -- what the place holds once the record has set its marks
   abbrev x : Cell
   x = cellAt (markedOf h r) k
-
-  -- the kind that a value's element has
-  axis-kind : moveOf (r .kind) ≡ moving → getD (h .kinds) at 0 ≡ elementAxis
-  unfolding recordKind
-  axis-kind m =
-      let kind = moving-kind (r .kind) m in
-      ok .element (omega arith) ∙ rw kind
 
   clear : (n : ℕ) → Clear (sheetOf h) k (r .pad) n
   clear n =
@@ -245,7 +250,7 @@ module _ (P : Float → Type 0) (alike : (a b : Float) → P a → P b → eq a 
         leaves (dispatchBy (moveOf (r .kind)) r (getD (h .names) at noName) (elementAt h at) (pressedAt h at) (h .pressed) (h .released) (h .reversed))
         (taken-as h r w none (moveOf (r .kind)) refl)
         (move-aside (sheetOf h) k (pl .bare) r (ok .pad) see (λ e. sees h r w desk e) apart (getD (h .names) at noName) (clear _) (clear _) refl
-        (elementAt h at) (pressedAt h at) (h .pressed) (h .released) (h .reversed) (moveOf (r .kind)) axis-kind)
+        (elementAt h at) (pressedAt h at) (h .pressed) (h .released) (h .reversed) (moveOf (r .kind)) (axis-kind h r ok))
 
     pub unconcerned : concerns p c r ≡ false → After b f
     unfolding concerns

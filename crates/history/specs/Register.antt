@@ -1,15 +1,15 @@
--- A registration leaves the pads before it as they were: their codes are found where they were, with the same element, and their state and their events stay.
--- Assumes nothing.
+-- A registration leaves the other pads' codes alone, and the pads before it as they were: their codes are found where they were, with the same element, and
+-- their state and their events stay. Assumes nothing.
 use Prim.Native.Nat.{ℕ, _+_, _*_, _/_, _<_, _≤_}
 use mathlib.Core.Bool.{Bool, true, false, _&&_}
 use mathlib.Core.List.{List, map}
 use mathlib.Core.Path.{_≡_, refl, sym, _∙_, ap}
 use lib.Dec.{eqb, ltb}
 use lib.Ieee.{Float}
-use lib.ListN.{getD, List·getD-eq-default}
+use lib.ListN.{length, getD, length-map, List·getD-eq-default}
 use lib.Seq.{getD-set-other}
 use native.Mathlib.Omega.{arith}
-use borrow.Author.Tests.{ltb-true, ltb-false}
+use borrow.Author.Tests.{ltb-true, ltb-false, ne-eqb}
 use Rattle.rules.specs.declared.Hub.{Hub}
 use Rattle.rules.specs.declared.Event.{Event}
 use Rattle.rules.specs.Names.{padLimit, placesPerPad, nowhere, noName, isHat}
@@ -17,10 +17,11 @@ use Rattle.rules.specs.Sheets.{countOf}
 use Rattle.rules.specs.Places.{placeOf, rowsOf}
 use Rattle.rules.specs.Events.{codeOf}
 use Rattle.rules.specs.Hub.{touchedAt, movedAt, pastElement}
-use Rattle.rules.specs.Calls.{rowCode, rowKind, rowName, rowElement, registerRefusal, registeredAt, registerBy}
+use Rattle.rules.specs.Calls.{laid, rowCode, rowKind, rowName, rowElement, registerRefusal, registeredAt, registerBy}
 use Rattle.promises.specs.Waiting.{waitingList}
-use Rattle.pad.specs.Lookup.{place-stands}
-use Rattle.registered.specs.Columns.{laid-places, accepted, register-others, register-sized, keeps-rise}
+use Rattle.pad.specs.Lookup.{place-stands, places-differ}
+use Rattle.registered.specs.Laid.{laid-behind}
+use Rattle.registered.specs.Columns.{places-length, laid-places, accepted}
 use Rattle.registered.specs.Converts.{SamePlaces, place-same}
 use Rattle.registered.specs.Pads.{Desk}
 use Rattle.history.specs.Cells.{cellAt, Long, hits}
@@ -28,13 +29,24 @@ use Rattle.history.specs.Marks.{cleared-before, cleared-inside}
 use Rattle.history.specs.Waits.{sheetOf, axialAt, takes, zonedAt, Fit, press, release, change, stick}
 use Rattle.history.specs.Truth.{true-false}
 
--- past the last place stands no axis
+-- past the last place stands no element
 pub past-axial : (h : Hub) → Desk h → (k : ℕ) → nowhere ≤ k → axialAt (sheetOf h) k ≡ false
 unfolding axialAt
 past-axial h desk k past =
     let names = desk .sized .names in
     let kinds = desk .sized .kinds in
     rw (List·getD-eq-default (h .names) noName {n = k} (omega arith), List·getD-eq-default (h .kinds) 0 {n = k} (omega arith))
+
+-- so a listed element's place is found
+pub listed-found : (h : Hub) → Desk h → (k : ℕ) → (getD (h .kinds) k 0 ≡ 0 → ⊥) → k < nowhere
+listed-found h desk k listed = by (ltb k nowhere) refl
+  where
+    by : (found : Bool) → ltb k nowhere ≡ found → k < nowhere
+    by true l = ltb-true k nowhere l
+    by false l =
+        let past = ltb-false k nowhere l in
+        let long = desk .sized .kinds in
+        absurd (listed (List·getD-eq-default (h .kinds) 0 {n = k} (omega arith)))
 
 module _ (h : Hub) (s : List ℕ) (desk : Desk h) (ok : registerRefusal (h .pads) s ≡ 0) where
   abbrev pub next : Hub
@@ -43,23 +55,27 @@ module _ (h : Hub) (s : List ℕ) (desk : Desk h) (ok : registerRefusal (h .pads
   few : h .pads < padLimit
   few = accepted (h .pads) s ok .0
 
+  -- another pad's codes, registered or not
+  pub same-codes : (q : ℕ) → (q ≡ h .pads → ⊥) → SamePlaces (next .codes) (h .codes) q
+  unfolding registeredAt
+  same-codes q other = record { at = λ j past from to. by (ltb q (h .pads)) refl j past from to }
+    where
+      codes : List ℕ
+      codes = map rowCode (rowsOf s (countOf s))
+
+      size : length codes ≡ placesPerPad
+      size = length-map (rowsOf s (countOf s)) rowCode ∙ places-length s
+
+      by : (older : Bool) → ltb q (h .pads) ≡ older → (j past : ℕ) → placesPerPad * q ≤ j → j < placesPerPad * q + placesPerPad
+          → getD (laid (h .codes) (placesPerPad * h .pads) codes) j past ≡ getD (h .codes) j past
+      by true e j past from to = laid-places (h .codes) codes q (h .pads) j past (ltb-true q (h .pads) e) to
+      by false e j past from to =
+          let behind = ltb-false q (h .pads) e in
+          laid-behind past codes (h .codes) (placesPerPad * h .pads) j (omega (arith, size))
+
   module _ (q : ℕ) (old : q < h .pads) where
-    same-codes : SamePlaces (h .codes) (next .codes) q
-    unfolding registeredAt
-    same-codes = record { at = λ j past from to. sym (laid-places (h .codes) (map rowCode (rowsOf s (countOf s))) q (h .pads) j past old to) }
-
-    same-names : SamePlaces (h .names) (next .names) q
-    unfolding registeredAt
-    same-names = record { at = λ j past from to. sym (laid-places (h .names) (map rowName (rowsOf s (countOf s))) q (h .pads) j past old to) }
-
     pub old-place : (c : ℕ) → placeOf (next .codes) q c ≡ placeOf (h .codes) q c
-    old-place c =
-        let w = desk .sheets q old in
-        let f = few in
-        let keeps = register-others h s (desk .sized) f q (w .sheet) old (w .kept .keeps) in
-        sym
-        (place-same (h .codes) (next .codes) (h .names) (next .names) q (omega arith) (keeps-rise h q (w .sheet) (w .kept .taken) (w .kept .keeps))
-        (keeps-rise next q (w .sheet) (w .kept .taken) keeps) same-codes same-names (desk .sized .names) (register-sized h s (desk .sized) .names) c)
+    old-place c = place-same (next .codes) (h .codes) q c (same-codes q (λ e. omega arith))
 
     pub old-converts : getD (next .converts) q false ≡ getD (h .converts) q false
     unfolding registeredAt
@@ -153,3 +169,13 @@ module _ (h : Hub) (s : List ℕ) (desk : Desk h) (ok : registerRefusal (h .pads
   pub same-hits : (k : ℕ) (e : Event) → e .pad < h .pads → hits (next .codes) k e ≡ hits (h .codes) k e
   unfolding hits
   same-hits k e old = ap (λ (j : ℕ). eqb j k) (old-place (e .pad) old (codeOf e))
+
+  -- none of them is of a pad that is new
+  pub new-apart : (q c : ℕ) → h .pads ≤ q → placeOf (next .codes) q c < nowhere → (e : Event) → e .pad < h .pads
+      → hits (next .codes) (placeOf (next .codes) q c) e ≡ false
+  unfolding hits
+  new-apart q c new found e old =
+      ne-eqb (placeOf (next .codes) (e .pad) (codeOf e)) (placeOf (next .codes) q c)
+      (λ same.
+      let pad = places-differ (next .codes) q c (e .pad) (codeOf e) found (sym same) .0 in
+      omega arith)

@@ -1,12 +1,13 @@
 -- 01's history rule: what a code of a pad reads, told from the records that were taken, the newest first, and from the sheet. It knows no queue, no filter's
 -- state and no cached record. Definitions only. Assumes nothing.
-use Prim.Native.Nat.{ℕ, zero, suc, _+_}
-use mathlib.Core.Bool.{Bool, false, cond, not, _&&_, _||_}
+use Prim.Native.Nat.{ℕ, zero, suc, _+_, _<_}
+use mathlib.Core.Bool.{Bool, true, false, cond, not, _&&_, _||_}
 use mathlib.Core.List.{List, [], _∷_}
 use mathlib.Core.Path.{_≡_}
 use lib.Dec.{eqb}
 use lib.Ieee.{Float, le}
-use Rattle.numbers.specs.Constants.{zero32}
+use lib.ListN.{getD}
+use Rattle.numbers.specs.Constants.{zero32, one32, minusOne32}
 use Rattle.numbers.specs.Scale.{axisScaledOf, buttonScaledOf}
 use Rattle.numbers.specs.Deadzone.{deadzoneOf}
 use Rattle.rules.specs.declared.Hub.{Hub}
@@ -14,10 +15,17 @@ use Rattle.rules.specs.declared.RawRecord.{RawRecord}
 use Rattle.rules.specs.declared.Element.{Element}
 use Rattle.rules.specs.declared.TruthAnswer.the-variants as truthAnswer
 use Rattle.rules.specs.declared.ValueAnswer.the-variants as valueAnswer
-use Rattle.rules.specs.Names.{isY, codeUp, codeDown, codeLeft, codeRight}
+use Rattle.rules.specs.Names.{isY, positiveCode, negativeCode, codeUp, codeDown, codeLeft, codeRight}
 use Rattle.rules.specs.Forms.{recordFields, recordSize, kindPressed, kindReleased, kindAxis, kindConnected}
 use Rattle.rules.specs.Dispatch.{amount}
 use Rattle.rules.specs.Queries.{pressedByCode, valueByCode}
+
+-- what is lent as bytes
+abbrev pub byteLimit : ℕ
+byteLimit = 256
+
+abbrev pub Bytes : List ℕ → Type 0
+Bytes s = (i : ℕ) → getD s i 0 < byteLimit
 
 -- "records are those taken": n records of a batch from a place on, before those that were taken earlier
 unfoldable pub recordsFrom : ℕ → List ℕ → ℕ → List RawRecord → List RawRecord
@@ -90,6 +98,16 @@ hatValue reversed nameOf elementOf n p (r ∷ rs) =
     (axisScaledOf (elementOf (r .code) .low) (elementOf (r .code) .range) (elementOf (r .code) .odd) (reversed && isY n) (r .value))
     (amount (eqb (r .kind) kindPressed)))
     (hatValue reversed nameOf elementOf n p rs))
+
+-- a hat's two directions, the positive one for true: their codes
+abbrev pub directionCode : Bool → ℕ → ℕ
+directionCode true n = positiveCode n
+directionCode false n = negativeCode n
+
+-- and the values that press them: "Right is pressed exactly when the last DPadX value was 1.0, Left when it was -1.0; .. Up and Down the same with DPadY"
+abbrev pub pressingValue : Bool → Float
+pressingValue true = one32
+pressingValue false = minusOne32
 
 -- the codes of the four directions
 unfoldable pub isDirection : ℕ → Bool

@@ -1,9 +1,9 @@
--- The two directions of a hat, as two places: what each shows once all that waits is written, and that the two are never pressed together on the way.
--- A step from the queue leaves both. Assumes nothing.
+-- The directions of a hat, as places: what one shows once all that waits is written, and that two are never pressed together on the way. A step from the queue
+-- leaves both, and a step that takes a record makes of them what goes out and what is queued.
 use Prim.Native.Nat.{ℕ, _<_}
 use mathlib.Core.Bool.{Bool, false, cond, _||_}
 use mathlib.Core.List.{List, _++_}
-use mathlib.Core.Path.{_≡_, sym, _∙_, ap, subst}
+use mathlib.Core.Path.{_≡_, refl, sym, _∙_, ap, subst, subst₂, subst₃}
 use lib.Dec.{eqb}
 use lib.ListN.{getD}
 use Rattle.rules.specs.declared.Hub.{Hub}
@@ -35,12 +35,27 @@ pub record Shows (x : Cell) (b : Bool) : Type 0 where
   pub pressed : cellPressed x ≡ b
   pub value : cellValue x ≡ amount b
 
-pub record Sides (s : Sheet) (h : Hub) (j k : ℕ) (q : List Event) (a b : Bool) : Type 0 where
-  pub plus : Shows (writes s j q (cellAt h j)) a
-  pub minus : Shows (writes s k q (cellAt h k)) b
-  pub plus-still : movedAt h j ≡ false
-  pub minus-still : movedAt h k ≡ false
-  pub never : Never s j k q (cellAt h j) (cellAt h k)
+-- a place, once all that waits is written
+pub record Side (h : Hub) (k : ℕ) (b : Bool) : Type 0 where
+  pub shows : Shows (writes (sheetOf h) k (waitingList h) (cellAt h k)) b
+  pub still : movedAt h k ≡ false
+
+-- two places, on the way
+abbrev pub Opposed : Hub → ℕ → ℕ → Type 0
+Opposed h j k = Never (sheetOf h) j k (waitingList h) (cellAt h j) (cellAt h k)
+
+-- the same of a hub that is told by its sheets, by what waits and by what it holds
+module _ (h : Hub) {s : Sheet} {q : List Event} (sheet : sheetOf h ≡ s) (waits : waitingList h ≡ q) where
+  pub side-by : (k : ℕ) {x : Cell} {b : Bool} → cellAt h k ≡ x → Shows (writes s k q x) b → movedAt h k ≡ false → Side h k b
+  side-by k {x} {b} cell shows still =
+      record {
+        shows = subst₃ (λ (t : Sheet) (es : List Event) (y : Cell). Shows (writes t k es y) b) (sym sheet) (sym waits) (sym cell) shows;
+        still = still;
+      }
+
+  pub opposed-by : (j k : ℕ) {x y : Cell} → cellAt h j ≡ x → cellAt h k ≡ y → Never s j k q x y → Opposed h j k
+  opposed-by j k cj ck never =
+      subst₂ (λ (t : Sheet) (es : List Event). Never t j k es (cellAt h j) (cellAt h k)) (sym sheet) (sym waits) (subst₂ (Never s j k q) (sym cj) (sym ck) never)
 
 -- a place that events are written to as they are
 pub record Plain (s : Sheet) (k : ℕ) : Type 0 where
@@ -80,72 +95,68 @@ module _ (h : Hub) (w : Ready h) (desk : Desk h) (sound : Sound h) (some : 0 < h
         moved-of h look w (single front) (front-taken h some) k (pl .inside)
         ∙ (ap (λ (m : Bool). cond (hits (h .codes) k (outOf view front)) (m || writesAxisType (outOf view front .event)) m) (front-moved h k ∙ still) ∙ exact .still)
 
+    -- what it queues is of other places
     later : All (Apart s k) (moreOf view front)
     later = queues s k (pl .bare) view fit (sees h blankRecord w desk front)
 
-    served-writes : writes s k (waitingList (stepHub h look)) (cellAt (stepHub h look) k) ≡ writes s k (waitingList h) (cellAt h k)
+    pub served-side : (b : Bool) → Side h k b → Side (stepHub h look) k b
     unfolding writes
-    served-writes =
-        ap (λ (q : List Event). writes s k q (cellAt (stepHub h look) k)) queue
-        ∙ (writes-more s k (restOf h) (cellAt (stepHub h look) k) later
-        ∙ (ap (λ (x : Cell). writes s k (restOf h) x) served-cell ∙ sym (ap (λ (q : List Event). writes s k q (cellAt h k)) (popped h some))))
+    served-side b t =
+        let front-first = subst (λ (q : List Event). Shows (writes s k q (cellAt h k)) b) (popped h some) (t .shows) in
+        side-by (stepHub h look) (same-sheet h look) queue k served-cell
+        (subst (λ (x : Cell). Shows x b) (sym (writes-more s k (restOf h) (putAt s k front (cellAt h k)) later)) front-first)
+        (served-still (t .still))
 
-  pub serve-sides : (j k : ℕ) → Plain s j → Plain s k → (a b : Bool) → Sides s h j k (waitingList h) a b
-      → Sides (sheetOf (stepHub h look)) (stepHub h look) j k (waitingList (stepHub h look)) a b
+  pub served-opposed : (j k : ℕ) → Plain s j → Plain s k → Opposed h j k → Opposed (stepHub h look) j k
   unfolding Never
-  serve-sides j k pj pk a b t =
-      let never = subst (λ (q : List Event). Never s j k q (cellAt h j) (cellAt h k)) (popped h some) (t .never) .1 in
-      let behind = never-more s j k (restOf h) (putAt s j front (cellAt h j)) (putAt s k front (cellAt h k)) (later j pj) (later k pk) never in
-      subst (λ (g : Sheet). Sides g (stepHub h look) j k (waitingList (stepHub h look)) a b) (sym (same-sheet h look))
-      (record {
-        plus = subst (λ (x : Cell). Shows x a) (sym (served-writes j pj)) (t .plus);
-        minus = subst (λ (x : Cell). Shows x b) (sym (served-writes k pk)) (t .minus);
-        plus-still = served-still j pj (t .plus-still);
-        minus-still = served-still k pk (t .minus-still);
-        never =
-            subst (λ (q : List Event). Never s j k q (cellAt (stepHub h look) j) (cellAt (stepHub h look) k)) (sym queue)
-            (subst (λ (x : Cell). Never s j k (restOf h ++ moreOf view front) x (cellAt (stepHub h look) k)) (sym (served-cell j pj))
-            (subst (λ (y : Cell). Never s j k (restOf h ++ moreOf view front) (putAt s j front (cellAt h j)) y) (sym (served-cell k pk)) behind));
-      })
+  served-opposed j k pj pk t =
+      let behind = subst (λ (q : List Event). Never s j k q (cellAt h j) (cellAt h k)) (popped h some) t .1 in
+      opposed-by (stepHub h look) (same-sheet h look) queue j k (served-cell j pj) (served-cell k pk)
+      (never-more s j k (restOf h) (putAt s j front (cellAt h j)) (putAt s k front (cellAt h k)) (later j pj) (later k pk) behind)
 
 -- ---- a step that takes a record
 
-module _ (h : Hub) (w : Ready h) (sound : Sound h) (r : RawRecord) (none : h .waiting ≡ 0) (d : Dispatched) (taken : takenOf h (lookAt r) ≡ d) where
+-- what goes out, and what is queued
+abbrev pub viewBy : Hub → RawRecord → View
+viewBy h r = viewOf (markedOf h r) (takenOf h (lookAt r) .event)
+
+abbrev pub outBy : Hub → RawRecord → Event
+outBy h r = outOf (viewBy h r) (takenOf h (lookAt r) .event)
+
+abbrev pub queueBy : Hub → RawRecord → List Event
+queueBy h r = queueOf (takenOf h (lookAt r)) (viewBy h r)
+
+-- they make a place show b
+pub record Turn (s : Sheet) (k : ℕ) (out : Event) (q : List Event) (x : Cell) (b : Bool) : Type 0 where
+  pub shows : Shows (writes s k q (putAt s k out x)) b
+  pub still : movesAt s k out ≡ false
+
+module _ (h : Hub) (w : Ready h) (sound : Sound h) (r : RawRecord) (none : h .waiting ≡ 0) where
   abbrev seen : Hub
   seen = markedOf h r
 
-  abbrev v : View
-  v = viewOf seen (d .event)
+  abbrev after : Hub
+  after = stepHub h (lookAt r)
 
-  abbrev out : Event
-  out = outOf v (d .event)
+  abbrev gives : Dispatched
+  gives = takenOf h (lookAt r)
 
-  taken-queue : waitingList (stepHub h (lookAt r)) ≡ queueOf d v
+  taken-queue : waitingList after ≡ queueBy h r
   taken-queue =
-      nothing-lost h (lookAt r) sound ∙ (ap (λ (es : List Event). es ++ pushesIn h (lookAt r)) (empty-rest h none) ∙ pushes-of h (lookAt r) w d taken)
+      nothing-lost h (lookAt r) sound ∙ (ap (λ (es : List Event). es ++ pushesIn h (lookAt r)) (empty-rest h none) ∙ pushes-of h (lookAt r) w gives refl)
 
-  taken-still : (k : ℕ) → k < nowhere → movedAt seen k ≡ false → movesAt (sheetOf h) k out ≡ false → movedAt (stepHub h (lookAt r)) k ≡ false
+  taken-cell : (k : ℕ) → k < nowhere → cellAt after k ≡ putAt (sheetOf h) k (outBy h r) (cellAt seen k)
+  taken-cell k inside = cell-of h (lookAt r) w gives refl k inside
+
+  taken-still : (k : ℕ) → k < nowhere → movedAt seen k ≡ false → movesAt (sheetOf h) k (outBy h r) ≡ false → movedAt after k ≡ false
   taken-still k inside still moves =
-      moved-of h (lookAt r) w d taken k inside ∙ (ap (λ (m : Bool). cond (hits (h .codes) k out) (m || writesAxisType (out .event)) m) still ∙ moves)
+      moved-of h (lookAt r) w gives refl k inside
+      ∙ (ap (λ (m : Bool). cond (hits (h .codes) k (outBy h r)) (m || writesAxisType (outBy h r .event)) m) still ∙ moves)
 
-  -- what the two places show, from what goes out and what is queued
-  pub take-sides : (j k : ℕ) → j < nowhere → k < nowhere → movedAt seen j ≡ false → movedAt seen k ≡ false → movesAt (sheetOf h) j out ≡ false
-      → movesAt (sheetOf h) k out ≡ false → (a b : Bool) → Shows (writes (sheetOf h) j (queueOf d v) (putAt (sheetOf h) j out (cellAt seen j))) a
-      → Shows (writes (sheetOf h) k (queueOf d v) (putAt (sheetOf h) k out (cellAt seen k))) b
-      → Never (sheetOf h) j k (queueOf d v) (putAt (sheetOf h) j out (cellAt seen j)) (putAt (sheetOf h) k out (cellAt seen k))
-      → Sides (sheetOf (stepHub h (lookAt r))) (stepHub h (lookAt r)) j k (waitingList (stepHub h (lookAt r))) a b
-  take-sides j k ij ik sj sk mj mk a b plus minus never =
-      let s = sheetOf h in
-      let cj = cell-of h (lookAt r) w d taken j ij in
-      let ck = cell-of h (lookAt r) w d taken k ik in
-      subst (λ (g : Sheet). Sides g (stepHub h (lookAt r)) j k (waitingList (stepHub h (lookAt r))) a b) (sym (same-sheet h (lookAt r)))
-      (subst (λ (q : List Event). Sides s (stepHub h (lookAt r)) j k q a b) (sym taken-queue)
-      (record {
-        plus = subst (λ (x : Cell). Shows (writes s j (queueOf d v) x) a) (sym cj) plus;
-        minus = subst (λ (x : Cell). Shows (writes s k (queueOf d v) x) b) (sym ck) minus;
-        plus-still = taken-still j ij sj mj;
-        minus-still = taken-still k ik sk mk;
-        never =
-            subst (λ (x : Cell). Never s j k (queueOf d v) x (cellAt (stepHub h (lookAt r)) k)) (sym cj)
-            (subst (λ (y : Cell). Never s j k (queueOf d v) (putAt s j out (cellAt seen j)) y) (sym ck) never);
-      }))
+  pub taken-side : (k : ℕ) → k < nowhere → (b : Bool) → movedAt seen k ≡ false → Turn (sheetOf h) k (outBy h r) (queueBy h r) (cellAt seen k) b → Side after k b
+  taken-side k inside b still t =
+      side-by after (same-sheet h (lookAt r)) taken-queue k (taken-cell k inside) (t .shows) (taken-still k inside still (t .still))
+
+  pub taken-opposed : (j k : ℕ) → j < nowhere → k < nowhere
+      → Never (sheetOf h) j k (queueBy h r) (putAt (sheetOf h) j (outBy h r) (cellAt seen j)) (putAt (sheetOf h) k (outBy h r) (cellAt seen k)) → Opposed after j k
+  taken-opposed j k ij ik never = opposed-by after (same-sheet h (lookAt r)) taken-queue j k (taken-cell j ij) (taken-cell k ik) never

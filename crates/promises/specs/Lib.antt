@@ -4,3 +4,5 @@ pub mod Queue
 pub mod Reach
 pub mod Unique
 pub mod Machines
+pub mod Judged
+pub mod Said

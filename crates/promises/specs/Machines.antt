@@ -20,6 +20,7 @@ use Rattle.rules.specs.Forms.{recordBytes, kindAxis}
 use Rattle.rules.specs.Sheets.{sheetBytes, elementAxis}
 use Rattle.rules.specs.Pump.{Run, pumpOf}
 use Rattle.rules.specs.Calls.{newOf, registerOf}
+use Rattle.rules.specs.Answers.{registerSays, pumpSays}
 
 -- ---- 01's example: "One axis element 0x00030010, name 39, -1..1, hats 0; values -1 at 100, 1 at 200"
 
@@ -30,6 +31,10 @@ sheet = sheetBytes 0 (record { code = 0x00030010; kind = elementAxis; name = dpa
 unfoldable pub move : ℤ → ℕ → List ℕ
 unfolding recordBytes
 move value time = recordBytes (record { kind = kindAxis; pad = 0; code = 0x00030010; value = value; time = time })
+
+-- its batch
+abbrev pub both : List ℕ
+both = move (negsuc 0) 100 ++ move (pos 1) 200
 
 unfoldable pub bare : Hub
 unfolding newOf Ieee.ofBits Ieee.lt Ieee.le
@@ -45,7 +50,7 @@ room = replicate 132 0
 abbrev pub allowed : ℕ
 allowed = 100
 
-first-pad : registerOf bare sheet .answer ≡ registerAnswer.Pad 0
+pub first-pad : registerOf bare sheet .answer ≡ registerAnswer.Pad 0
 unfolding bare sheet registerOf newOf Ieee.ofBits Ieee.lt Ieee.le Ieee.ofInt Ieee.sub Ieee.mul Ieee.div
 first-pad = refl
 
@@ -53,7 +58,7 @@ one-move : pumpOf desk (move (negsuc 0) 100) 0 room allowed .pumped .answer ≡ 
 unfolding desk move pumpOf Ieee.ofBits Ieee.lt Ieee.le Ieee.eq Ieee.ne Ieee.ofInt Ieee.sub Ieee.mul Ieee.div Ieee.neg Ieee.add
 one-move = refl
 
-two-moves : pumpOf desk (move (negsuc 0) 100 ++ move (pos 1) 200) 0 room allowed .pumped .answer ≡ Drained 42 6 6
+pub two-moves : pumpOf desk both 0 room allowed .pumped .answer ≡ Drained 42 6 6
 unfolding desk move pumpOf Ieee.ofBits Ieee.lt Ieee.le Ieee.eq Ieee.ne Ieee.ofInt Ieee.sub Ieee.mul Ieee.div Ieee.neg Ieee.add
 two-moves = refl
 
@@ -67,10 +72,7 @@ pub record Meets (m : Machine) : Type 0 where
   pub is : (h : Hub) (batch : List ℕ) (place : ℕ) (out : List ℕ) (allowance : ℕ) → m h batch place out allowance ≡ pumpOf h batch place out allowance
 
 abbrev pub refusalSaid : PumpAnswer → ℕ
-refusalSaid (Drained place events steps) = 0
-refusalSaid (Full place events steps) = 0
-refusalSaid (Paused place events steps) = 0
-refusalSaid (Refused number place events steps) = number
+refusalSaid a = pumpSays a .refusal
 
 abbrev pub placeSaid : PumpAnswer → ℕ
 placeSaid (Drained place events steps) = place
@@ -102,8 +104,8 @@ module _ (m : Machine) (meets : Meets m) where
   first-said : said m desk (move (negsuc 0) 100) 0 room allowed ≡ Drained 21 2 2
   first-said = answers desk (move (negsuc 0) 100) 0 room allowed ∙ one-move
 
-  both-said : said m desk (move (negsuc 0) 100 ++ move (pos 1) 200) 0 room allowed ≡ Drained 42 6 6
-  both-said = answers desk (move (negsuc 0) 100 ++ move (pos 1) 200) 0 room allowed ∙ two-moves
+  both-said : said m desk both 0 room allowed ≡ Drained 42 6 6
+  both-said = answers desk both 0 room allowed ∙ two-moves
 
   -- "a hub refusing everything": its pump
   pub refuses-everything : ((h : Hub) (batch : List ℕ) (place : ℕ) (out : List ℕ) (allowance : ℕ) → 0 < refusalSaid (said m h batch place out allowance)) → ⊥
@@ -128,7 +130,7 @@ module _ (m : Machine) (meets : Meets m) where
       → eventsSaid (said m h (first ++ second) 0 out allowance) ≡ eventsSaid (said m h first 0 out allowance)) → ⊥
   only-advances wrong =
       let two : eventsSaid (said m desk (move (negsuc 0) 100) 0 room allowed) ≡ 2 = ap eventsSaid first-said in
-      let six : eventsSaid (said m desk (move (negsuc 0) 100 ++ move (pos 1) 200) 0 room allowed) ≡ 6 = ap eventsSaid both-said in
+      let six : eventsSaid (said m desk both 0 room allowed) ≡ 6 = ap eventsSaid both-said in
       omega (arith, wrong desk (move (negsuc 0) 100) (move (pos 1) 200) room allowed)
 
   -- "a made-up step count": the count is the definition's, for every input
@@ -137,14 +139,13 @@ module _ (m : Machine) (meets : Meets m) where
   made-up-steps h batch place out allowance wrong = wrong (ap stepsSaid (answers h batch place out allowance))
 
   -- so a count that leaves 01's "DRAINED 6" is none
-  pub six-steps : (steps : ℕ) → said m desk (move (negsuc 0) 100 ++ move (pos 1) 200) 0 room allowed ≡ Drained 42 6 steps → steps ≡ 6
+  pub six-steps : (steps : ℕ) → said m desk both 0 room allowed ≡ Drained 42 6 steps → steps ≡ 6
   six-steps steps wrong = sym (ap stepsSaid wrong) ∙ ap stepsSaid both-said
 
 -- ---- "a hub refusing everything": its registration
 
 abbrev pub registerRefused : RegisterAnswer → ℕ
-registerRefused (registerAnswer.Pad p) = 0
-registerRefused (registerAnswer.Refused number) = number
+registerRefused a = registerSays a .refusal
 
 pub refuses-every-sheet : (register : Hub → List ℕ → Registered) → ((h : Hub) (s : List ℕ) → register h s ≡ registerOf h s)
     → ((h : Hub) (s : List ℕ) → 0 < registerRefused (register h s .answer)) → ⊥

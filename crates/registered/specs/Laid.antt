@@ -1,4 +1,4 @@
--- A column after a run of it is laid: the run has the values, a place before it what it had, and the column its length. Assumes nothing.
+-- A column after a run of it is laid: the run has the values, a place before or behind it what it had, and the column its length. Assumes nothing.
 use Prim.Native.Nat.{ℕ, zero, suc, _+_, _<_, _≤_}
 use mathlib.Core.List.{List, [], _∷_}
 use mathlib.Core.Path.{_≡_, refl, _∙_}
@@ -19,6 +19,13 @@ module _ {A : Type 0} (past : A) where
   laid-before [] xs k j short = refl
   laid-before (v ∷ vs) xs k j short =
       laid-before vs (set xs k v) (k + 1) j (omega arith) ∙ getD-set-other xs k j v past (λ e. omega arith)
+
+  -- a place behind it
+  pub laid-behind : (vs xs : List A) (k j : ℕ) → k + length vs ≤ j → getD (laid xs k vs) j past ≡ getD xs j past
+  unfolding laid
+  laid-behind [] xs k j behind = refl
+  laid-behind (v ∷ vs) xs k j behind =
+      laid-behind vs (set xs k v) (k + 1) j (omega arith) ∙ getD-set-other xs k j v past (λ e. omega arith)
 
   -- a place of the run
   pub laid-at : (vs xs : List A) (k i : ℕ) → i < length vs → k + length vs ≤ length xs → getD (laid xs k vs) (k + i) past ≡ getD vs i past

@@ -149,19 +149,17 @@ module _ (h : Hub) (s : List ℕ) (d : Desk h) (taken : registerRefusal (h .pads
   old-kept p old t w =
       let few = accepted (h .pads) s taken .0 in
       let other : p ≡ h .pads → ⊥ = λ e. omega arith in
-      let keeps = register-others h s (d .sized) few p t old (w .keeps) in
       let codes : SamePlaces (h .codes) (registeredAt h (h .pads) (hatsOf s) (countOf s) (rowsOf s (countOf s)) .codes) p =
       record { at = λ j past from to. sym (laid-places (h .codes) (map rowCode (rowsOf s (countOf s))) p (h .pads) j past old to) } in
       let names : SamePlaces (h .names) (registeredAt h (h .pads) (hatsOf s) (countOf s) (rowsOf s (countOf s)) .names) p =
       record { at = λ j past from to. sym (laid-places (h .names) (map rowName (rowsOf s (countOf s))) p (h .pads) j past old to) } in
       record {
         taken = w .taken;
-        keeps = keeps;
+        keeps = register-others h s (d .sized) few p t old (w .keeps);
         converts =
             getD-set-other (h .converts) (h .pads) p _ false other
             ∙ (w .converts
-            ∙ converts-same (h .codes) _ (h .names) _ p (omega arith) (keeps-rise h p t (w .taken) (w .keeps))
-            (keeps-rise (registerBy 0 h s .hub) p t (w .taken) keeps) codes names (d .sized .names) (register-sized h s (d .sized) .names) (hatsOf t));
+            ∙ converts-same (h .codes) _ (h .names) _ p codes names (d .sized .names) (register-sized h s (d .sized) .names) (hatsOf t));
       }
 
   sheet-by : (p : ℕ) (older : Bool) → ltb p (h .pads) ≡ older → p < h .pads + 1 → Sheet (registerBy 0 h s .hub) p
