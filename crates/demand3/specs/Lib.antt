@@ -4,6 +4,7 @@ pub mod Listed
 pub mod Converting
 pub mod Reading
 pub mod Before
+pub mod Counts
 pub mod Example
 pub mod Wrong
 pub mod Theorem

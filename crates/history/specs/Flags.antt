@@ -32,7 +32,7 @@ pub record Costs (before after : Flags) : Type 0 where
   pub partner-is : after .partner ≡ false
   pub own : after .own ≡ true → before .own ≡ true
 
-and-parts : (a b : Bool) → (a && b) ≡ true → (a ≡ true) × (b ≡ true)
+pub and-parts : (a b : Bool) → (a && b) ≡ true → (a ≡ true) × (b ≡ true)
 and-parts true b e = (refl, e)
 and-parts false b e = false-true e
 

@@ -1,6 +1,6 @@
--- Demand 3: "each record hands out at most four events before the next is taken". What has been handed out since the record's step and what can still be is at
--- most four, whatever stops and calls lie between the steps. Assumes nothing.
-use Prim.Native.Nat.{ℕ, _+_, _<_, _≤_, zero, suc, _*_}
+-- Demand 3: "each record hands out at most four events before the next is taken". A record's step brings at most three events beside the one that goes out, a step
+-- from the queue uses one of those up, and no call between the steps brings any. Pumps counts by it.
+use Prim.Native.Nat.{ℕ, _+_, _<_, zero, suc, _*_}
 use mathlib.Core.Bool.{Bool, true, false, cond, _&&_}
 use mathlib.Core.List.{List, _∷_, _++_, []}
 use mathlib.Core.Path.{_≡_, refl, sym, _∙_, ap, subst}
@@ -14,36 +14,37 @@ use Rattle.rules.specs.declared.Looked.{Looked}
 use Rattle.rules.specs.declared.RawRecord.{RawRecord}
 use Rattle.rules.specs.declared.Dispatched.{Dispatched}
 use Rattle.rules.specs.Names.{nowhere, noName, partnerOf, padLimit, flagsPerPad, flagOf}
-use Rattle.rules.specs.Places.{placeOf, namedOf, clearedOf, oneIf}
-use Rattle.rules.specs.Refusals.{recordRefusal}
+use Rattle.rules.specs.Places.{placeOf, namedOf, clearedOf}
+use Rattle.rules.specs.Refusals.{thresholdsRefusal, formRefusal}
 use Rattle.rules.specs.Events.{nameOf}
-use Rattle.rules.specs.Filters.{filteredOf, keptOf}
+use Rattle.rules.specs.Filters.{filteredOf}
 use Rattle.rules.specs.Dispatch.{moveOf, dispatchBy, single}
 use Rattle.rules.specs.Hub.{elementAt, pressedAt, frontOf, viewAt, viewOf, flagPlace}
-use Rattle.rules.specs.Step.{blankRecord, joinRun, markedOf, flagsSet, pushedOf, turnedOf, updatedAt, updatedOf, filteredIn, takenOf, recordKind, stepEvent, stepHub}
+use Rattle.rules.specs.Step.{blankRecord, joinRun, markedOf, flagsSet, pushedOf, turnedOf, updatedAt, updatedOf, filteredIn, takenOf, stepHub}
 use Rattle.promises.specs.Waiting.{waitingList, restOf, popped, empty-rest}
 use Rattle.promises.specs.Queue.{pushesIn, nothing-lost}
 use Rattle.promises.specs.Reach.{reached-sound}
 use Rattle.registered.specs.Pads.{Desk, reached-desk}
 use Rattle.history.specs.Turns.{moreOf, ev}
 use Rattle.history.specs.Steps.{Ready, look, lookAt, front-taken, pushes-of}
-use Rattle.history.specs.Waits.{sheetOf, All, head-of, Fit, Sheet, fit-pad}
+use Rattle.history.specs.Waits.{sheetOf, All, empty, head-of, Fit, Sheet, fit-pad}
 use Rattle.history.specs.Views.{sees, partner-is}
 use Rattle.history.specs.Take.{queueOf, taken-as}
-use Rattle.history.specs.Played as played
-use Rattle.history.specs.Played.{Played, take, serve, reached, ready, Repeats, refusal, update-is}
-use Rattle.history.specs.Pumps.{Led}
+use Rattle.history.specs.Records.{none-waits}
+use Rattle.history.specs.Played.{Played, fresh, register, take, serve, inc, reset, repeat, reached, ready}
 use Rattle.history.specs.Tidy.{tidy}
 use Rattle.history.specs.Tails.{Tail, Less, Flagged, next-tail, buttons, lone}
 use Rattle.history.specs.Brings.{Few, brings}
 use Rattle.rules.specs.declared.EventForm.{EventForm}
+use Rattle.rules.specs.declared.EventRead.{EventRead}
+use Rattle.rules.specs.declared.EventRead.the-variants as eventRead
+use Rattle.rules.specs.Forms.{readEvent}
 use Rattle.rules.specs.declared.EventType.the-variants.{Axis}
 use Rattle.rules.specs.State.{nextCounter}
-use Rattle.rules.specs.Calls.{registerRefusal, registeredAt, registerBy, registerOf, updateFormBy, updateOf, countedAt, incOf, resetOf}
+use Rattle.rules.specs.Calls.{freshHub, newBy, newOf, registerRefusal, registeredAt, registerBy, registerOf, formPlace, updateFormBy, updateBy, updateOf, countedAt, incOf, resetOf}
 use Rattle.registered.specs.Columns.{accepted}
-use Rattle.history.specs.Truth.{false-true}
 use Rattle.history.specs.Marks.{cleared-before, cleared-behind}
-use Rattle.history.specs.Flags.{upAt}
+use Rattle.history.specs.Flags.{and-parts, upAt}
 
 -- ---- the flags after a step
 
@@ -76,7 +77,14 @@ front-flags h = refl
 
 -- ---- the two steps
 
-take-few : {h : Hub} {rs : List RawRecord} → Played h rs → (r : RawRecord) → h .waiting ≡ 0 → Few (stepHub h (lookAt r) .flags) (waitingList (stepHub h (lookAt r)))
+-- what waits in a hub can still hand out so many events
+abbrev pub Still : Hub → ℕ → Type 0
+Still h b = Tail (h .flags) (waitingList h) b
+
+pub none-still : (h : Hub) → h .waiting ≡ 0 → Still h 0
+none-still h none = rw (none-waits h none) (buttons empty)
+
+pub take-few : {h : Hub} {rs : List RawRecord} → Played h rs → (r : RawRecord) → h .waiting ≡ 0 → Few (stepHub h (lookAt r) .flags) (waitingList (stepHub h (lookAt r)))
 take-few {h} p r none =
     let w = ready p in
     let desk = reached-desk (reached p) in
@@ -90,7 +98,7 @@ take-few {h} p r none =
     (brings (markedOf h r .flags) r (λ e. viewOf (markedOf h r) e) (λ e. flagged h r w desk e) (moveOf (r .kind)) (getD (h .names) at noName) (elementAt h at) (pressedAt h at)
     (h .pressed) (h .released) (h .reversed)))
 
-serve-less : {h : Hub} {rs : List RawRecord} → Played h rs → 0 < h .waiting → (b : ℕ) → Tail (h .flags) (waitingList h) b
+pub serve-less : {h : Hub} {rs : List RawRecord} → Played h rs → 0 < h .waiting → (b : ℕ) → Still h b
     → Less (stepHub h look .flags) (waitingList (stepHub h look)) b
 serve-less {h} p some b t =
     let w = ready p in
@@ -110,12 +118,11 @@ serve-less {h} p some b t =
 
 -- ---- calls between the steps
 
-counted-tail : (h : Hub) (m b : ℕ) → Tail (h .flags) (waitingList h) b → Tail (countedAt h m .flags) (waitingList (countedAt h m)) b
+counted-tail : (h : Hub) (m b : ℕ) → Still h b → Still (countedAt h m) b
 unfolding countedAt waitingList
 counted-tail h m b t = t
 
-form-tail : (number : ℕ) (h : Hub) (f : EventForm) (b : ℕ) → Tail (h .flags) (waitingList h) b
-    → Tail (updateFormBy number h f .hub .flags) (waitingList (updateFormBy number h f .hub)) b
+form-tail : (number : ℕ) (h : Hub) (f : EventForm) (b : ℕ) → Still h b → Still (updateFormBy number h f .hub) b
 unfolding updatedOf updatedAt waitingList
 form-tail zero h f b t = t
 form-tail (suc number) h f b t = t
@@ -125,12 +132,8 @@ flag-place : (flags : List Bool) (pads p n : ℕ) → p < pads → pads < padLim
     → getD (clearedOf flags (flagsPerPad * pads) flagsPerPad) (cond inside (flagsPerPad * p + flagOf n) (flagsPerPad * padLimit)) false
     ≡ getD flags (cond inside (flagsPerPad * p + flagOf n) (flagsPerPad * padLimit)) false
 flag-place flags pads p n old few true e =
-    let small = ltb-true (flagOf n) flagsPerPad (second (ltb p padLimit) (ltb (flagOf n) flagsPerPad) e) in
+    let small = ltb-true (flagOf n) flagsPerPad (and-parts (ltb p padLimit) (ltb (flagOf n) flagsPerPad) e .1) in
     cleared-before flagsPerPad flags (flagsPerPad * pads) (flagsPerPad * p + flagOf n) (omega arith)
-  where
-    second : (a b : Bool) → (a && b) ≡ true → b ≡ true
-    second true b e = e
-    second false b e = false-true e
 flag-place flags pads p n old few false e = cleared-behind flagsPerPad flags (flagsPerPad * pads) (flagsPerPad * padLimit) (omega arith)
 
 flag-same : (flags : List Bool) (pads p n : ℕ) → p < pads → pads < padLimit
@@ -149,87 +152,58 @@ grown-tail s flags few q b fits (lone {pad} {time} {m} {c} {z}) =
     subst (λ (n : ℕ). Tail after (ev pad time (Axis m c z) ∷ []) (suc n)) same lone
 
 register-tail : (number : ℕ) (h : Hub) (sheet : List ℕ) (b : ℕ) → registerRefusal (h .pads) sheet ≡ number → All (Fit (sheetOf h)) (waitingList h)
-    → Tail (h .flags) (waitingList h) b → Tail (registerBy number h sheet .hub .flags) (waitingList (registerBy number h sheet .hub)) b
+    → Still h b → Still (registerBy number h sheet .hub) b
 unfolding registeredAt waitingList
 register-tail zero h sheet b ok fits t = grown-tail (sheetOf h) (h .flags) (accepted (h .pads) sheet ok .0) (waitingList h) b fits t
 register-tail (suc number) h sheet b ok fits t = t
 
--- ---- since the last record
+pub register-still : {h : Hub} {rs : List RawRecord} → Played h rs → (sheet : List ℕ) (b : ℕ) → Still h b → Still (registerOf h sheet .hub) b
+unfolding registerOf
+register-still {h} w sheet b t = register-tail (registerRefusal (h .pads) sheet) h sheet b refl (tidy w) t
 
--- a hub, and the events that were handed out since its last record was taken
-pub data Handed : Hub → ℕ → Type 0 where
-  taken : {h : Hub} {rs : List RawRecord} → Played h rs → (r : RawRecord) → h .waiting ≡ 0 → recordRefusal (lookAt r) (h .pads) (recordKind h r) ≡ 0
-      → Handed (stepHub h (lookAt r)) (oneIf (keptOf true (stepEvent h (lookAt r))))
-  served : {h : Hub} {n : ℕ} → Handed h n → 0 < h .waiting → Handed (stepHub h look) (n + oneIf (keptOf true (stepEvent h look)))
-  registered : {h : Hub} {n : ℕ} → Handed h n → (sheet : List ℕ) → Handed (registerOf h sheet .hub) n
-  counted : {h : Hub} {n : ℕ} → Handed h n → Handed (incOf h) n
-  reset : {h : Hub} {n : ℕ} → Handed h n → Handed (resetOf h) n
-  repeated : {h : Hub} {n : ℕ} → Handed h n → (bytes : List ℕ) → Repeats h bytes → Handed (updateOf h bytes .hub) n
+pub inc-still : (h : Hub) (b : ℕ) → Still h b → Still (incOf h) b
+unfolding incOf
+inc-still h b t = counted-tail h (nextCounter (h .counter)) b t
 
-pub handed-led : {h : Hub} {n : ℕ} → Handed h n → Led h
-handed-led (taken {h} {rs} p r none ok) = record { records = r ∷ rs; played = take r none ok p }
-handed-led (served a some) =
-    let l = handed-led a in
-    record { records = l .records; played = serve some (l .played) }
-handed-led (registered a sheet) =
-    let l = handed-led a in
-    record { records = l .records; played = played.register sheet (l .played) }
-handed-led (counted a) =
-    let l = handed-led a in
-    record { records = l .records; played = played.inc (l .played) }
-handed-led (reset a) =
-    let l = handed-led a in
-    record { records = l .records; played = played.reset (l .played) }
-handed-led (repeated a bytes fed) =
-    let l = handed-led a in
-    record { records = l .records; played = played.repeat bytes fed (l .played) }
+pub reset-still : (h : Hub) (b : ℕ) → Still h b → Still (resetOf h) b
+unfolding resetOf
+reset-still h b t = counted-tail h 0 b t
 
--- what was handed out, and what can still be
-record Sums (h : Hub) (n : ℕ) : Type 0 where
-  bound : ℕ
-  tail : Tail (h .flags) (waitingList h) bound
-  small : n + bound ≤ 4
+pub update-still : (h : Hub) (bytes : List ℕ) (b : ℕ) → Still h b → Still (updateOf h bytes .hub) b
+unfolding updateOf
+update-still h bytes b t = read-still (readEvent bytes)
+  where
+    read-still : (r : EventRead) → Still (updateBy r h .hub) b
+    read-still (eventRead.Form f) = form-tail (formRefusal f (h .pads) (formPlace h f)) h f b t
+    read-still eventRead.Malformed = t
 
-one-at-most : (b : Bool) → oneIf b ≤ 1
-one-at-most true = omega arith
-one-at-most false = omega arith
+-- ---- whatever is played
 
-sums : {h : Hub} {n : ℕ} → Handed h n → Sums h n
-unfolding registerOf incOf resetOf
-sums (taken {h} p r none ok) =
-    let f = take-few p r none in
-    let few = f .few in
-    record { bound = f .bound; tail = f .tail; small = omega (arith, one-at-most (keptOf true (stepEvent h (lookAt r)))) }
-sums (served {h} {n} a some) =
-    let s = sums a in
-    let l = serve-less (handed-led a .played) some (s .bound) (s .tail) in
+new-still : (number : ℕ) (h : Hub) → number ≡ 0 → h .waiting ≡ 0 → Still (newBy number h .hub) 0
+new-still zero h ok none = none-still h none
+new-still (suc number) h ok none = absurd (omega arith)
+
+pub still : {h : Hub} {rs : List RawRecord} → Played h rs → Few (h .flags) (waitingList h)
+unfolding newOf
+still (fresh pressed released reversed ok) =
+    let h = freshHub pressed released reversed true true in
+    record { bound = 0; tail = new-still (thresholdsRefusal pressed released) h ok (unfold freshHub in refl); few = omega arith }
+still (register sheet w) =
+    let s = still w in
+    record { bound = s .bound; tail = register-still w sheet (s .bound) (s .tail); few = s .few }
+still (take r none ok w) = take-few w r none
+still (serve some w) =
+    let s = still w in
+    let l = serve-less w some (s .bound) (s .tail) in
     let less = l .less in
-    let small = s .small in
-    record { bound = l .bound; tail = l .tail; small = omega (arith, one-at-most (keptOf true (stepEvent h look))) }
-sums (registered {h} a sheet) =
-    let s = sums a in
-    record {
-      bound = s .bound;
-      tail = register-tail (registerRefusal (h .pads) sheet) h sheet (s .bound) refl (tidy (handed-led a .played)) (s .tail);
-      small = s .small;
-    }
-sums (counted {h} a) =
-    let s = sums a in
-    record { bound = s .bound; tail = counted-tail h (nextCounter (h .counter)) (s .bound) (s .tail); small = s .small }
-sums (reset {h} a) =
-    let s = sums a in
-    record { bound = s .bound; tail = counted-tail h 0 (s .bound) (s .tail); small = s .small }
-sums (repeated {h} a bytes fed) =
-    let s = sums a in
-    record {
-      bound = s .bound;
-      tail =
-          subst (λ (g : Hub). Tail (g .flags) (waitingList g) (s .bound)) (sym (update-is h bytes fed)) (form-tail (refusal h bytes fed) h (fed .form) (s .bound) (s .tail));
-      small = s .small;
-    }
-
--- "at most four events"
-pub at-most-four : {h : Hub} {n : ℕ} → Handed h n → n ≤ 4
-at-most-four a =
-    let small = sums a .small in
-    omega arith
+    let few = s .few in
+    record { bound = l .bound; tail = l .tail; few = omega arith }
+still (inc {h} w) =
+    let s = still w in
+    record { bound = s .bound; tail = inc-still h (s .bound) (s .tail); few = s .few }
+still (reset {h} w) =
+    let s = still w in
+    record { bound = s .bound; tail = reset-still h (s .bound) (s .tail); few = s .few }
+still (repeat {h} bytes is w) =
+    let s = still w in
+    record { bound = s .bound; tail = update-still h bytes (s .bound) (s .tail); few = s .few }

@@ -18,6 +18,7 @@ pub mod Own
 pub mod Records
 pub mod Concerned
 pub mod Played
+pub mod Runs
 pub mod Pumps
 pub mod Flags
 pub mod Tails

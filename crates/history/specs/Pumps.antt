@@ -1,136 +1,175 @@
--- The records of a pump are those of its batch, from the place given to the place answered, and each takes 21 bytes: each step serves an event that waits, or
--- takes the record at the place, where it is not refused, while none does. So whatever a pump is given, it leaves a hub that is played, wherever it stopped.
-use Prim.Native.Nat.{ℕ, zero, suc, _+_, _-_, _*_}
+-- What a pump does with a batch: each step serves an event that waits, or takes the record at the place while none does. So the records taken are those of the
+-- batch from the place given to the place answered, 21 bytes each, wherever the pump stopped; and each record pays for at most four steps, and so for at most
+-- four events, counted with what waited before and what still waits.
+use Prim.Native.Nat.{ℕ, zero, suc, _+_, _-_, _*_, _<_, _≤_}
 use mathlib.Core.Bool.{Bool, true, false}
 use mathlib.Core.List.{List, _∷_}
-use mathlib.Core.Path.{_≡_, refl, ap, subst, _∙_}
-use lib.Dec.{ltb, eqb}
+use mathlib.Core.Path.{_≡_, refl, sym, ap, subst, _∙_}
+use lib.Dec.{ltb}
 use lib.ListN.{length}
 use native.Mathlib.Omega.{arith}
-use borrow.Author.Tests.{ltb-true, ltb-false}
+use borrow.Author.Tests.{ltb-true, ltb-false, leb-true}
 use Rattle.rules.specs.declared.Hub.{Hub}
+use Rattle.rules.specs.declared.PumpAnswer.{PumpAnswer}
 use Rattle.rules.specs.declared.RawRecord.{RawRecord}
 use Rattle.rules.specs.declared.RecordRead.the-variants as recordRead
-use Rattle.rules.specs.Forms.{recordFits, recordFields, readRecord, recordSize, eventSize}
-use Rattle.rules.specs.Refusals.{pumpRefusal, recordRefusal}
-use Rattle.rules.specs.Step.{lookedBy, lookedOf, recordKind, stepRefusal, stepHub}
-use Rattle.rules.specs.Pump.{Progress, Run, Verdict, going, stopping, refusing, drained, full, placeAfter, verdictBy, stopOf, verdictOf, steppedBy, stepped, stopAnswer, endedBy, runOf, startOf, pumpBy, pumpOf}
-use Rattle.promises.specs.Machines.{placeSaid}
+use Rattle.rules.specs.Forms.{recordFits, recordFields, readRecord, recordSize}
+use Rattle.rules.specs.Places.{oneIf}
+use Rattle.rules.specs.Refusals.{recordRefusal}
+use Rattle.rules.specs.Filters.{keptOf}
+use Rattle.rules.specs.Step.{lookedBy, lookedOf, recordKind, stepRefusal, stepEvent, stepHub}
+use Rattle.rules.specs.Pump.{Progress, placeAfter, steppedBy, stepped, pumpOf}
+use Rattle.promises.specs.Machines.{placeSaid, eventsSaid, stepsSaid}
+use Rattle.promises.specs.Waiting.{waitingList}
 use Rattle.history.specs.Rule.{recordsFrom}
 use Rattle.history.specs.Played.{Played, take, serve}
-
--- the records that were taken, whatever they are
-pub record Led (h : Hub) : Type 0 where
-  pub records : List RawRecord
-  pub played : Played h records
-
--- a hub after some records of a batch: how many, where the place then is, and the records taken, the newest first
-pub record Took (h : Hub) (s : List ℕ) (from to : ℕ) (rs : List RawRecord) : Type 0 where
-  pub count : ℕ
-  pub place : to ≡ from + recordSize * count
-  pub played : Played h (recordsFrom count s from rs)
+use Rattle.history.specs.Flags.{and-parts}
+use Rattle.history.specs.Tails.{Less}
+use Rattle.history.specs.Brings.{Few}
+use Rattle.history.specs.Handed.{Still, none-still, take-few, serve-less, still}
+use Rattle.history.specs.Runs.{Goes, endOf, pump-holds}
 
 -- ---- a step
 
-read-is : (h : Hub) (s : List ℕ) (at : ℕ) (rs : List RawRecord) (fits : Bool) → recordFits s at ≡ fits → h .waiting ≡ 0
+-- what a step that is made does to a hub, b being what could be handed out before it
+pub data Makes (h : Hub) (s : List ℕ) (at : ℕ) (rs : List RawRecord) (b : ℕ) : Hub → ℕ → Type 0 where
+  serves : {g : Hub} → 0 < h .waiting → Played g rs → Less (g .flags) (waitingList g) b → Makes h s at rs b g at
+  takes : {g : Hub} → h .waiting ≡ 0 → at + recordSize ≤ length s → Played g (recordFields s at ∷ rs) → Few (g .flags) (waitingList g)
+      → Makes h s at rs b g (at + recordSize)
+
+fits-inside : (s : List ℕ) (at : ℕ) → recordFits s at ≡ true → at + recordSize ≤ length s
+unfolding recordFits
+fits-inside s at e =
+    let room = leb-true recordSize (length s - at) (and-parts _ _ e .0) in
+    omega arith
+
+record-makes : (h : Hub) (s : List ℕ) (at : ℕ) (rs : List RawRecord) (b : ℕ) (fits : Bool) → recordFits s at ≡ fits → h .waiting ≡ 0
     → recordRefusal (lookedBy (readRecord s at)) (h .pads) (recordKind h (lookedBy (readRecord s at) .raw)) ≡ 0 → Played h rs
-    → Played (stepHub h (lookedBy (readRecord s at))) (recordFields s at ∷ rs)
+    → Makes h s at rs b (stepHub h (lookedBy (readRecord s at))) (at + recordSize)
 unfolding readRecord
-read-is h s at rs true e none ok w = rw e (take (recordFields s at) none (rw e at ok) w)
-read-is h s at rs false e none ok w = absurd (malformed (rw e at ok))
+record-makes h s at rs b true e none ok w =
+    rw e (takes none (fits-inside s at e) (take (recordFields s at) none (rw e at ok) w) (take-few w (recordFields s at) none))
+record-makes h s at rs b false e none ok w = absurd (malformed (rw e at ok))
   where
     malformed : recordRefusal (lookedBy recordRead.Malformed) (h .pads) (recordKind h (lookedBy recordRead.Malformed .raw)) ≡ 0 → ⊥
     malformed e = let z : _≡_ {A = ℕ} 8 0 = unfold recordRefusal in e in omega arith
 
-step-hub : (h : Hub) (s : List ℕ) (at : ℕ) (rs : List RawRecord) (waits : Bool) → ltb 0 (h .waiting) ≡ waits
-    → stepRefusal h (lookedOf (h .waiting) s at) ≡ 0 → Played h rs → Took (stepHub h (lookedOf (h .waiting) s at)) s at (placeAfter (h .waiting) at) rs
-unfolding stepRefusal lookedOf placeAfter recordsFrom
-step-hub h s at rs true e ok w = rw e (record { count = 0; place = omega arith; played = serve (ltb-true 0 (h .waiting) e) w })
-step-hub h s at rs false e ok w =
+hub-makes : (h : Hub) (s : List ℕ) (at : ℕ) (rs : List RawRecord) (b : ℕ) (waits : Bool) → ltb 0 (h .waiting) ≡ waits
+    → stepRefusal h (lookedOf (h .waiting) s at) ≡ 0 → Played h rs → Still h b
+    → Makes h s at rs b (stepHub h (lookedOf (h .waiting) s at)) (placeAfter (h .waiting) at)
+unfolding stepRefusal lookedOf placeAfter
+hub-makes h s at rs b true e ok w t =
+    let some = ltb-true 0 (h .waiting) e in
+    rw e (serves some (serve some w) (serve-less w some b t))
+hub-makes h s at rs b false e ok w t =
     let few = ltb-false 0 (h .waiting) e in
-    rw e (record { count = 1; place = omega arith; played = read-is h s at rs (recordFits s at) refl (omega arith) (rw e at ok) w })
+    rw e (record-makes h s at rs b (recordFits s at) refl (omega arith) (rw e at ok) w)
 
-step-took : (p : Progress) (s : List ℕ) (rs : List RawRecord)
-    → stepRefusal (p .hub) (lookedOf (p .hub .waiting) s (p .at)) ≡ 0 → Played (p .hub) rs → Took (stepped s p .hub) s (p .at) (stepped s p .at) rs
+pub step-makes : (s : List ℕ) (p : Progress) (rs : List RawRecord) (b left : ℕ) → Goes left s p → Played (p .hub) rs → Still (p .hub) b
+    → Makes (p .hub) s (p .at) rs b (stepped s p .hub) (stepped s p .at)
 unfolding stepped steppedBy
-step-took p s rs ok w = step-hub (p .hub) s (p .at) rs (ltb 0 (p .hub .waiting)) refl ok w
+step-makes s p rs b left goes w t = hub-makes (p .hub) s (p .at) rs b (ltb 0 (p .hub .waiting)) refl (goes .accepted) w t
+
+-- it is one step, and writes at most one event
+pub record Counts (p q : Progress) : Type 0 where
+  pub step : q .steps ≡ p .steps + 1
+  pub kept : p .events ≤ q .events
+  pub one : q .events ≤ p .events + 1
+
+pub step-counts : (s : List ℕ) (p : Progress) → Counts p (stepped s p)
+unfolding stepped steppedBy
+step-counts s p =
+    let b = keptOf (p .hub .filters) (stepEvent (p .hub) (lookedOf (p .hub .waiting) s (p .at))) in
+    record { step = refl; kept = omega arith; one = omega (arith, one-at-most b) }
+  where
+    one-at-most : (b : Bool) → oneIf b ≤ 1
+    one-at-most true = omega arith
+    one-at-most false = omega arith
 
 -- ---- a pump
 
-abbrev goes : Verdict → ℕ
-goes going = 0
-goes (stopping why) = 1
-goes (refusing number) = 1
+-- "at most four events"
+abbrev pub mostHanded : ℕ
+mostHanded = 4
 
-stopped : _≡_ {A = ℕ} 1 0 → ⊥
-stopped e = omega arith
+-- where a pump stands that began at a place of a batch, after the records rs and where b events could be handed out: how many records it took, which, and
+-- what can be handed out now
+pub record Took (s : List ℕ) (from : ℕ) (rs : List RawRecord) (b : ℕ) (p : Progress) : Type 0 where
+  pub count : ℕ
+  pub place : p .at ≡ from + recordSize * count
+  pub inside : from ≤ length s → p .at ≤ length s
+  pub played : Played (p .hub) (recordsFrom count s from rs)
+  pub bound : ℕ
+  pub tail : Still (p .hub) bound
+  pub events : p .events + bound ≤ b + mostHanded * count
+  pub steps : p .steps + bound ≤ b + mostHanded * count
 
-accepted : (why number : ℕ) → verdictBy why number ≡ going → number ≡ 0
-accepted zero zero e = refl
-accepted zero (suc number) e = absurd (stopped (ap goes e))
-accepted (suc why) number e = absurd (stopped (ap goes e))
-
-going-accepts : (left : ℕ) (s : List ℕ) (p : Progress) → verdictOf left s p ≡ going → stepRefusal (p .hub) (lookedOf (p .hub .waiting) s (p .at)) ≡ 0
-unfolding verdictOf
-going-accepts left s p e =
-    accepted (stopOf (p .hub .waiting) (length s - p .at) (length (p .out) - eventSize * p .events) left) (stepRefusal (p .hub) (lookedOf (p .hub .waiting) s (p .at))) e
-
-records-more : (n m : ℕ) (s : List ℕ) (at : ℕ) (rs : List RawRecord) → recordsFrom m s (at + recordSize * n) (recordsFrom n s at rs) ≡ recordsFrom (n + m) s at rs
+one-more : (n : ℕ) (s : List ℕ) (at : ℕ) (rs : List RawRecord) → recordsFrom (suc n) s at rs ≡ recordFields s (at + recordSize * n) ∷ recordsFrom n s at rs
 unfolding recordsFrom
-records-more zero m s at rs =
-    let a : at + recordSize * 0 ≡ at = omega arith in
-    let b : m ≡ 0 + m = omega arith in
-    ap (λ (k : ℕ). recordsFrom m s k rs) a ∙ ap (λ (j : ℕ). recordsFrom j s at rs) b
-records-more (suc n) m s at rs =
-    let a : at + recordSize * suc n ≡ at + recordSize + recordSize * n = omega arith in
-    let b : suc (n + m) ≡ suc n + m = omega arith in
-    ap (λ (k : ℕ). recordsFrom m s k (recordsFrom n s (at + recordSize) (recordFields s at ∷ rs))) a
-    ∙ (records-more n m s (at + recordSize) (recordFields s at ∷ rs) ∙ ap (λ (j : ℕ). recordsFrom j s at rs) b)
+one-more zero s at rs =
+    let a : at ≡ at + recordSize * 0 = omega arith in
+    ap (λ (k : ℕ). recordFields s k ∷ rs) a
+one-more (suc n) s at rs =
+    let a : at + recordSize + recordSize * n ≡ at + recordSize * suc n = omega arith in
+    one-more n s (at + recordSize) (recordFields s at ∷ rs) ∙ ap (λ (k : ℕ). recordFields s k ∷ recordsFrom (suc n) s at rs) a
 
-pub ended-place : (v : Verdict) (p : Progress) → placeSaid (endedBy v p .pumped .answer) ≡ p .at
-ended-place going p = refl
-ended-place (stopping why) p = by (eqb why drained) (eqb why full) refl refl
-  where
-    by : (a b : Bool) → eqb why drained ≡ a → eqb why full ≡ b → placeSaid (stopAnswer why (p .at) (p .events) (p .steps)) ≡ p .at
-    by true b e f = rw e
-    by false true e f = rw (e, f)
-    by false false e f = rw (e, f)
-ended-place (refusing number) p = refl
+module _ (s : List ℕ) (from : ℕ) (rs : List RawRecord) (b : ℕ) where
+  took-by : (p : Progress) (w : Took s from rs b p) {g : Hub} {to : ℕ} (out : List ℕ) (events steps : ℕ) → events ≤ p .events + 1 → steps ≡ p .steps + 1
+      → Makes (p .hub) s (p .at) (recordsFrom (w .count) s from rs) (w .bound) g to
+      → Took s from rs b (record { hub = g; at = to; out = out; events = events; steps = steps })
+  took-by p w out events steps one more (serves some played less) =
+      record {
+        count = w .count;
+        place = w .place;
+        inside = w .inside;
+        played = played;
+        bound = less .bound;
+        tail = less .tail;
+        events = omega (arith, less .less, w .events);
+        steps = omega (arith, less .less, w .steps);
+      }
+  took-by p w {g} out events steps one more (takes none fits played few) =
+      let at = w .place in
+      record {
+        count = suc (w .count);
+        place = omega arith;
+        inside = λ i. fits;
+        played = subst (Played g) (ap (λ (k : ℕ). recordFields s k ∷ recordsFrom (w .count) s from rs) at ∙ sym (one-more (w .count) s from rs)) played;
+        bound = few .bound;
+        tail = few .tail;
+        events = omega (arith, few .few, w .events);
+        steps = omega (arith, few .few, w .steps);
+      }
 
-abbrev Ran : Run → List ℕ → ℕ → List RawRecord → Type 0
-Ran r s from rs = Took (r .pumped .hub) s from (placeSaid (r .pumped .answer)) rs
+  took-on : (left : ℕ) (p : Progress) → Goes (suc left) s p → Took s from rs b p → Took s from rs b (stepped s p)
+  took-on left p goes w =
+      let c = step-counts s p in
+      took-by p w (stepped s p .out) (stepped s p .events) (stepped s p .steps) (c .one) (c .step)
+      (step-makes s p (recordsFrom (w .count) s from rs) (w .bound) (suc left) goes (w .played) (w .tail))
 
-here : (v : Verdict) (s : List ℕ) (p : Progress) (rs : List RawRecord) → Played (endedBy v p .pumped .hub) rs → Ran (endedBy v p) s (p .at) rs
+-- what a pump hands out, where b events could be handed out before it
+pub pump-counts : (h : Hub) (s : List ℕ) (place : ℕ) (out : List ℕ) (allowance : ℕ) (rs : List RawRecord) → Played h rs → (b : ℕ) → Still h b
+    → Took s place rs b (endOf (pumpOf h s place out allowance))
 unfolding recordsFrom
-here v s p rs w = record { count = 0; place = ended-place v p ∙ omega arith; played = w }
-
-then : (s : List ℕ) (h g : Hub) (from mid to : ℕ) (rs : List RawRecord) (a : Took h s from mid rs) → Took g s mid to (recordsFrom (a .count) s from rs) → Took g s from to rs
-then s h g from mid to rs a b =
-    let x = a .place in
-    let y = b .place in
-    record {
-      count = a .count + b .count;
-      place = omega arith;
-      played = subst (Played g) (ap (λ (k : ℕ). recordsFrom (b .count) s k (recordsFrom (a .count) s from rs)) x ∙ records-more (a .count) (b .count) s from rs) (b .played);
-    }
-
-run-took : (left allowed : ℕ) (v : Verdict) (s : List ℕ) (p : Progress) (rs : List RawRecord) → verdictOf allowed s p ≡ v → Played (p .hub) rs → Ran (runOf left v s p) s (p .at) rs
-unfolding runOf
-run-took zero allowed going s p rs e w = here going s p rs w
-run-took zero allowed (stopping why) s p rs e w = here (stopping why) s p rs w
-run-took zero allowed (refusing number) s p rs e w = here (refusing number) s p rs w
-run-took (suc left) allowed going s p rs e w =
-    let a = step-took p s rs (going-accepts allowed s p e) w in
-    then s (stepped s p .hub) _ (p .at) (stepped s p .at) _ rs a (run-took left left (verdictOf left s (stepped s p)) s (stepped s p) (recordsFrom (a .count) s (p .at) rs) refl (a .played))
-run-took (suc left) allowed (stopping why) s p rs e w = here (stopping why) s p rs w
-run-took (suc left) allowed (refusing number) s p rs e w = here (refusing number) s p rs w
-
-by-took : (number : ℕ) (h : Hub) (s : List ℕ) (place : ℕ) (out : List ℕ) (allowance : ℕ) (rs : List RawRecord) → Played h rs → Ran (pumpBy number h s place out allowance) s place rs
-unfolding recordsFrom
-by-took zero h s place out allowance rs w = run-took allowance allowance (verdictOf allowance s (startOf h place out)) s (startOf h place out) rs refl w
-by-took (suc number) h s place out allowance rs w = record { count = 0; place = omega arith; played = w }
+pump-counts h s place out allowance rs w b t =
+    pump-holds s (Took s place rs b) (took-on s place rs b) h place out allowance
+    (record { count = 0; place = omega arith; inside = λ i. i; played = w; bound = b; tail = t; events = omega arith; steps = omega arith })
 
 -- after a pump the records taken are those taken before it and the batch's between the place given and the place answered
-pub pump-took : (h : Hub) (s : List ℕ) (place : ℕ) (out : List ℕ) (allowance : ℕ) (rs : List RawRecord) → Played h rs → Ran (pumpOf h s place out allowance) s place rs
-unfolding pumpOf
-pump-took h s place out allowance rs w = by-took (pumpRefusal (length s) (length out) place) h s place out allowance rs w
+pub pump-took : (h : Hub) (s : List ℕ) (place : ℕ) (out : List ℕ) (allowance : ℕ) (rs : List RawRecord) (w : Played h rs)
+    → Took s place rs (still w .bound) (endOf (pumpOf h s place out allowance))
+pump-took h s place out allowance rs w = pump-counts h s place out allowance rs w (still w .bound) (still w .tail)
+
+-- for each record's 21 bytes at most four events and four steps, wherever the pump stopped
+pub record FourEach (place : ℕ) (a : PumpAnswer) : Type 0 where
+  pub events : recordSize * eventsSaid a ≤ mostHanded * (placeSaid a - place)
+  pub steps : recordSize * stepsSaid a ≤ mostHanded * (placeSaid a - place)
+
+pub four-each : (h : Hub) (s : List ℕ) (place : ℕ) (out : List ℕ) (allowance : ℕ) (rs : List RawRecord) → Played h rs → h .waiting ≡ 0
+    → FourEach place (pumpOf h s place out allowance .pumped .answer)
+four-each h s place out allowance rs w none =
+    let t = pump-counts h s place out allowance rs w 0 (none-still h none) in
+    let at = t .place in
+    let events = t .events in
+    let steps = t .steps in
+    record { events = omega arith; steps = omega arith }

@@ -17,7 +17,7 @@ use Rattle.lines.specs.Text.{heldOf, linesOf}
 use Rattle.lines.proofs.Laws.{Laid, laid, grown, laid-take, appended-length}
 use Rattle.padlog.specs.declared.Tally.{Tally}
 use Rattle.padlog.specs.Log.{Told, goesOn, tallyOf, tallied, lastLine, pumpAll, printed, roundsOf}
-use Rattle.padlog.proofs.Bounds.{Bounded, pump-bounded}
+use Rattle.padlog.specs.Bounds.{Bounded, pump-bounded}
 
 -- `whole` is the text so far and that of the `left` calls to come; there is room for 744 lines a call and the last line
 pub record Standing (batch whole : List ℕ) (h : Hub) (place : ℕ) (out : List ℕ) (steps : ℕ) (text : List ℕ) (at left : ℕ) : Type 0 where

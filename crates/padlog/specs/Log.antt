@@ -48,9 +48,12 @@ lastLine t steps = cond (eqb (t .ends) drained) (drainedLine (steps + t .steps))
 
 -- ---- pumping
 
--- a call with all the steps that an allowance can hold
+-- all the steps that an allowance can hold
+abbrev pub allowance : ℕ
+allowance = 65535
+
 unfoldable pub pumpAll : Hub → List ℕ → ℕ → List ℕ → Run
-pumpAll h batch place out = pumpOf h batch place out 65535
+pumpAll h batch place out = pumpOf h batch place out allowance
 
 abbrev pub tallied : Run → Tally
 tallied r = tallyOf (r .pumped .answer)
@@ -67,7 +70,7 @@ roundsOf (suc left) h batch place out steps =
     (roundsOf left (pumpAll h batch place out .pumped .hub) batch (tallied (pumpAll h batch place out) .place) (pumpAll h batch place out .out)
     (steps + tallied (pumpAll h batch place out) .steps))
 
--- 780 records give at most 3,120 events, which fill the out buffer of 744 four times: eight calls are more than any input takes
+-- 780 records give at most 3,120 events, which fill the out buffer of 744 four times: eight calls are more than any input takes (Ends)
 abbrev pub rounds : ℕ
 rounds = 8
 

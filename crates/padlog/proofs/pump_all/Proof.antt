@@ -5,7 +5,7 @@ use mathlib.Core.List.{List, _++_, append-nil}
 use native.Mathlib.Omega.{arith}
 use lib.ListN.{length, take}
 use borrow.Author.Needs.{needs}
-use Rattle.padlog.specs.Log.{Told, pumpAll, roundsOf}
+use Rattle.padlog.specs.Log.{pumpAll, roundsOf, rounds}
 use Rattle.padlog.proofs.Rounds.{Standing, recount, steps-few, goes-on, last-room, all-told, none-left}
 use Rattle.padlog.proofs.pump_all.Statement.{statement}
 use Rattle.padlog.proofs.pump_all.Tie as tie
@@ -18,7 +18,7 @@ use Rattle.pump.proofs.pump.Reads as pump-reads
 
 abbrev Inv-loop : tie.InvT-loop
 Inv-loop batch out₀ text₀ h₀ place₀ steps₀ at₀ left₀ out text h place steps at left =
-    Standing batch (roundsOf 8 h₀ batch place₀ out₀ steps₀) h place out steps text at left × (left ≤ 8)
+    Standing batch (roundsOf rounds h₀ batch place₀ out₀ steps₀) h place out steps text at left × (left ≤ rounds)
 
 abbrev μ-loop : tie.MeasureT-loop
 μ-loop batch out₀ text₀ h₀ place₀ steps₀ at₀ left₀ out text h place steps at left = left
