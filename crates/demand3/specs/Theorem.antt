@@ -13,7 +13,7 @@ use Rattle.history.specs.Played.{reached}
 use Rattle.demand3.specs.Demand3.{Script, Allowed, play, settingsOf, recordsOf, Sheet, sheetsOf, noSheet, unlisted, lookup, converts, says, ruleReads, Opposite, Demand3}
 use Rattle.demand3.specs.Scripts.{Registered, script-played, script-sheets, script-set}
 use Rattle.demand3.specs.Reading.{code-reads, opposite-reads}
-use Rattle.demand3.specs.Before.{pump-before}
+use Rattle.demand3.specs.Counts.{script-four, script-before}
 
 module _ (s : Script) (ok : Allowed s) (p : ℕ) (short : p < length (sheetsOf pumpOf s)) where
   old : p < play pumpOf s .pads
@@ -40,6 +40,6 @@ demand3 =
     record {
       reads = λ s ok none p c x short rule. reads s ok p short none c x rule;
       opposites = λ s ok p c d short hats facing no-plus no-minus. opposites s ok p short c d hats facing no-plus no-minus;
-      four = ?four;
-      before = λ s ok batch place out allowance few. pump-before (play pumpOf s) batch place out allowance (reached (script-played s ok)) few;
+      four = script-four;
+      before = script-before;
     }
