@@ -32,7 +32,7 @@ use Rattle.history.specs.Runs.{Goes, endOf, pump-holds}
 -- ---- a step
 
 -- what a step that is made does to a hub, b being what could be handed out before it
-pub data Makes (h : Hub) (s : List ℕ) (at : ℕ) (rs : List RawRecord) (b : ℕ) : Hub → ℕ → Type 0 where
+data Makes (h : Hub) (s : List ℕ) (at : ℕ) (rs : List RawRecord) (b : ℕ) : Hub → ℕ → Type 0 where
   serves : {g : Hub} → 0 < h .waiting → Played g rs → Less (g .flags) (waitingList g) b → Makes h s at rs b g at
   takes : {g : Hub} → h .waiting ≡ 0 → at + recordSize ≤ length s → Played g (recordFields s at ∷ rs) → Few (g .flags) (waitingList g)
       → Makes h s at rs b g (at + recordSize)
@@ -65,22 +65,21 @@ hub-makes h s at rs b false e ok w t =
     let few = ltb-false 0 (h .waiting) e in
     rw e (record-makes h s at rs b (recordFits s at) refl (omega arith) (rw e at ok) w)
 
-pub step-makes : (s : List ℕ) (p : Progress) (rs : List RawRecord) (b left : ℕ) → Goes left s p → Played (p .hub) rs → Still (p .hub) b
+step-makes : (s : List ℕ) (p : Progress) (rs : List RawRecord) (b left : ℕ) → Goes left s p → Played (p .hub) rs → Still (p .hub) b
     → Makes (p .hub) s (p .at) rs b (stepped s p .hub) (stepped s p .at)
 unfolding stepped steppedBy
 step-makes s p rs b left goes w t = hub-makes (p .hub) s (p .at) rs b (ltb 0 (p .hub .waiting)) refl (goes .accepted) w t
 
 -- it is one step, and writes at most one event
-pub record Counts (p q : Progress) : Type 0 where
-  pub step : q .steps ≡ p .steps + 1
-  pub kept : p .events ≤ q .events
-  pub one : q .events ≤ p .events + 1
+record Counts (p q : Progress) : Type 0 where
+  step : q .steps ≡ p .steps + 1
+  one : q .events ≤ p .events + 1
 
-pub step-counts : (s : List ℕ) (p : Progress) → Counts p (stepped s p)
+step-counts : (s : List ℕ) (p : Progress) → Counts p (stepped s p)
 unfolding stepped steppedBy
 step-counts s p =
     let b = keptOf (p .hub .filters) (stepEvent (p .hub) (lookedOf (p .hub .waiting) s (p .at))) in
-    record { step = refl; kept = omega arith; one = omega (arith, one-at-most b) }
+    record { step = refl; one = omega (arith, one-at-most b) }
   where
     one-at-most : (b : Bool) → oneIf b ≤ 1
     one-at-most true = omega arith
