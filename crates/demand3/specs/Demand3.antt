@@ -1,6 +1,7 @@
 -- Demand 3 on one page, from bytes to reads. A script is what a caller does with a fresh hub; from it and from what the calls answered are told the sheets
 -- that were accepted, the records that were taken and the events that were written; `ruleReads` is 01's history rule over these, which knows no queue; and
--- `Demand3` says of a pump what every script shows. Theorem.antt proves it of the pump. Definitions only: a referee reads this page, `Rule` of history, and 01.
+-- `Demand3` says of a pump what every script shows. Theorem.antt proves it of the pump. Definitions only: beside `rules` and `numbers` a referee reads this page,
+-- `Rule` of history, and of `Machines` of promises what a pump's answer says.
 use Prim.Native.Nat.{ℕ, zero, suc, _+_, _-_, _*_, _/_, _<_, _≤_}
 use mathlib.Core.Bool.{Bool, true, false, cond, not, _&&_, _||_}
 use mathlib.Core.List.{List, [], _∷_, _++_}
