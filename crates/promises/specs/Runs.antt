@@ -27,7 +27,7 @@ endOf r =
     }
 
 -- it answers where it stands
-end-is : (v : Verdict) (p : Progress) → endOf (endedBy v p) ≡ p
+pub end-is : (v : Verdict) (p : Progress) → endOf (endedBy v p) ≡ p
 end-is going p = refl
 end-is (stopping why) p = by (eqb why drained) (eqb why full) refl refl
   where
