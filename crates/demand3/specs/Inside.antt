@@ -17,7 +17,8 @@ use Rattle.demand3.specs.Demand3.{Call, pump, Script, _then_, goesOn, Al
 use Rattle.demand3.specs.Scripts.{script-played}
 use Rattle.demand3.specs.Counts.{records-length, allowed-before, Counts, counts-on, calls-count}
 
--- from the end of a call to the end of one that goes on, where so many events could be handed out between: the records taken, and what was written
+-- from the end of a call, after which so many events can be handed out, to the end of the call that is allowed more steps: the records taken, what can still be
+-- handed out, and what was written
 record Later (first whole : Run) (bound : ℕ) : Type 0 where
   count : ℕ
   place : placeSaid (whole .pumped .answer) ≡ placeSaid (first .pumped .answer) + recordSize * count
@@ -39,12 +40,11 @@ module _ (s : Script) (ok : Allowed s) (batch : List ℕ) (place : ℕ) (out : L
   later : (a b : ℕ) → a ≤ b → (bound : ℕ) → Still (run a .pumped .hub) bound → Later (run a) (run b) bound
   unfolding play
   later a b few bound t =
-      let first = run a in
       let parts = pump-parts (play pumpOf s) batch place out a (b - a) in
-      let c = pump-counts (first .pumped .hub) batch (placeSaid (first .pumped .answer)) (unwritten first) (b - a) (recordsOf pumpOf (pumped a))
-      (script-played (pumped a) (ok, tt)) bound t in
+      let played = script-played (pumped a) (ok, tt) in
+      let c = pump-counts (run a .pumped .hub) batch (placeSaid (answered a)) (unwritten (run a)) (b - a) (recordsOf pumpOf (pumped a)) played bound t in
       let whole : a + (b - a) ≡ b = omega arith in
-      subst (λ (allowance : ℕ). Later first (run allowance) bound) whole
+      subst (λ (allowance : ℕ). Later (run a) (run allowance) bound) whole
       (record {
         count = c .count;
         place = parts .place ∙ c .place;
@@ -53,7 +53,7 @@ module _ (s : Script) (ok : Allowed s) (batch : List ℕ) (place : ℕ) (out : L
         events = omega (arith, parts .events, c .events);
       })
 
-  -- inside one call: after its first a steps nothing waits
+  -- inside one call, where nothing waits after its first a steps
   pub call-four : (a b : ℕ) → a ≤ b → run a .pumped .hub .waiting ≡ 0
       → eventsSaid (answered b) ≤ eventsSaid (answered a) + 4 * ((placeSaid (answered b) - placeSaid (answered a)) / recordSize)
   call-four a b few none =
@@ -65,13 +65,11 @@ module _ (s : Script) (ok : Allowed s) (batch : List ℕ) (place : ℕ) (out : L
   later-counts a b few bound t =
       let l = later a b few bound t in
       let took = pump-took (play pumpOf s) batch place out a (recordsOf pumpOf s) (script-played s ok) in
-      let at = took .place in
-      let place-on = l .place in
       let before = records-length ((placeSaid (answered a) - place) / recordSize) batch place (recordsOf pumpOf s) in
       let after = records-length ((placeSaid (answered b) - place) / recordSize) batch place (recordsOf pumpOf s) in
-      record { bound = l .left; tail = l .tail; more = omega arith; few = omega (arith, l .events) }
+      record { bound = l .left; tail = l .tail; more = omega (arith, took .place, l .place); few = omega (arith, took .place, l .place, l .events) }
 
--- from a moment inside a call at which nothing waits to any later one
+-- from a moment inside a call at which nothing waits to any later one; one inside a later call is the end of that call, allowed fewer steps
 pub inside-four : (s : Script) (batch : List ℕ) (place : ℕ) (out : List ℕ) (a b : ℕ) (cs : List Call) → a ≤ b
     → Allowed (goesOn (s then pump batch place out b) cs) → play pumpOf (s then pump batch place out a) .waiting ≡ 0
     → eventsOf pumpOf (goesOn (s then pump batch place out b) cs)
