@@ -14,7 +14,7 @@ use Rattle.promises.specs.Waiting.{restOf, waiting-length, ring-length}
 use Rattle.promises.specs.Queue.{pushesIn}
 use Rattle.promises.specs.Reach.{Reached, step, reached-keeps}
 use Rattle.promises.specs.Machines.{said, placeSaid, stepsSaid}
-use Rattle.history.specs.Runs.{Goes, pump-holds}
+use Rattle.promises.specs.Runs.{Goes, pump-holds}
 
 -- a step takes at most one of what waits
 step-waits : (h : Hub) (l : Looked) → Reached h → h .waiting ≤ stepHub h l .waiting + 1

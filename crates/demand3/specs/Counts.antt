@@ -23,7 +23,7 @@ use Rattle.demand3.specs.Demand3.{Call, register, pump, inc, reset, repe
 use Rattle.demand3.specs.Scripts.{script-played}
 use Rattle.demand3.specs.Before.{pump-before}
 
-records-length : (n : ℕ) (s : List ℕ) (at : ℕ) (rs : List RawRecord) → length (recordsFrom n s at rs) ≡ n + length rs
+pub records-length : (n : ℕ) (s : List ℕ) (at : ℕ) (rs : List RawRecord) → length (recordsFrom n s at rs) ≡ n + length rs
 unfolding recordsFrom
 records-length zero s at rs = omega arith
 records-length (suc n) s at rs = records-length n s (at + recordSize) (recordFields s at ∷ rs) ∙ omega arith
@@ -34,16 +34,25 @@ fed-still repeatAnswer.Quiet h b t = t
 fed-still (repeatAnswer.Refused number) h b t = t
 
 -- scripts without their last calls
-allowed-before : (s : Script) (cs : List Call) → Allowed (goesOn s cs) → Allowed s
+pub allowed-before : (s : Script) (cs : List Call) → Allowed (goesOn s cs) → Allowed s
 allowed-before s [] ok = ok
 allowed-before s (c ∷ cs) ok = allowed-before (s then c) cs ok .0
 
 -- from a script, after which b events can be handed out, to one that goes on: what was written, what can be handed out now, and the records taken
-record Counts (s t : Script) (b : ℕ) : Type 0 where
-  bound : ℕ
-  tail : Still (play pumpOf t) bound
-  more : length (recordsOf pumpOf s) ≤ length (recordsOf pumpOf t)
-  few : eventsOf pumpOf t + bound ≤ eventsOf pumpOf s + b + mostHanded * (length (recordsOf pumpOf t) - length (recordsOf pumpOf s))
+pub record Counts (s t : Script) (b : ℕ) : Type 0 where
+  pub bound : ℕ
+  pub tail : Still (play pumpOf t) bound
+  pub more : length (recordsOf pumpOf s) ≤ length (recordsOf pumpOf t)
+  pub few : eventsOf pumpOf t + bound ≤ eventsOf pumpOf s + b + mostHanded * (length (recordsOf pumpOf t) - length (recordsOf pumpOf s))
+
+pub counts-on : (s t u : Script) (b : ℕ) (one : Counts s t b) → Counts t u (one .bound) → Counts s u b
+counts-on s t u b one rest =
+    record {
+      bound = rest .bound;
+      tail = rest .tail;
+      more = omega (arith, one .more, rest .more);
+      few = omega (arith, one .more, rest .more, one .few, rest .few);
+    }
 
 call-counts : (s : Script) → Allowed s → (c : Call) (b : ℕ) → Still (play pumpOf s) b → Counts s (s then c) b
 unfolding play recordsOf eventsOf
@@ -61,17 +70,11 @@ call-counts s ok (repeat after every clock true) b t =
     record { bound = b; tail = fed-still (repeatOf (play pumpOf s) after every clock) (play pumpOf s) b t; more = omega arith; few = omega arith }
 call-counts s ok (repeat after every clock false) b t = record { bound = b; tail = t; more = omega arith; few = omega arith }
 
-calls-count : (s : Script) (cs : List Call) → Allowed (goesOn s cs) → (b : ℕ) → Still (play pumpOf s) b → Counts s (goesOn s cs) b
+pub calls-count : (s : Script) (cs : List Call) → Allowed (goesOn s cs) → (b : ℕ) → Still (play pumpOf s) b → Counts s (goesOn s cs) b
 calls-count s [] ok b t = record { bound = b; tail = t; more = omega arith; few = omega arith }
 calls-count s (c ∷ cs) ok b t =
     let one = call-counts s (allowed-before (s then c) cs ok .0) c b t in
-    let rest = calls-count (s then c) cs ok (one .bound) (one .tail) in
-    record {
-      bound = rest .bound;
-      tail = rest .tail;
-      more = omega (arith, one .more, rest .more);
-      few = omega (arith, one .more, rest .more, one .few, rest .few);
-    }
+    counts-on s (s then c) (goesOn (s then c) cs) b one (calls-count (s then c) cs ok (one .bound) (one .tail))
 
 pub script-four : (s : Script) (cs : List Call) → Allowed (goesOn s cs) → play pumpOf s .waiting ≡ 0
     → eventsOf pumpOf (goesOn s cs) ≤ eventsOf pumpOf s + 4 * (length (recordsOf pumpOf (goesOn s cs)) - length (recordsOf pumpOf s))

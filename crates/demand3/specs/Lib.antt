@@ -5,6 +5,7 @@ pub mod Converting
 pub mod Reading
 pub mod Before
 pub mod Counts
+pub mod Inside
 pub mod Example
 pub mod Wrong
 pub mod Theorem

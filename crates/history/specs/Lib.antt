@@ -18,7 +18,6 @@ pub mod Own
 pub mod Records
 pub mod Concerned
 pub mod Played
-pub mod Runs
 pub mod Pumps
 pub mod Flags
 pub mod Tails

@@ -6,53 +6,41 @@ use mathlib.Core.Bool.{Bool, true, false}
 use mathlib.Core.List.{List, _∷_}
 use mathlib.Core.Path.{_≡_, refl, sym, ap, subst, _∙_}
 use lib.Dec.{ltb}
-use lib.ListN.{length}
 use native.Mathlib.Omega.{arith}
-use borrow.Author.Tests.{ltb-true, ltb-false, leb-true}
+use borrow.Author.Tests.{ltb-true, ltb-false}
 use Rattle.rules.specs.declared.Hub.{Hub}
 use Rattle.rules.specs.declared.PumpAnswer.{PumpAnswer}
 use Rattle.rules.specs.declared.RawRecord.{RawRecord}
-use Rattle.rules.specs.declared.RecordRead.the-variants as recordRead
-use Rattle.rules.specs.Forms.{recordFits, recordFields, readRecord, recordSize}
+use Rattle.rules.specs.Forms.{recordFields, readRecord, recordSize}
 use Rattle.rules.specs.Places.{oneIf}
 use Rattle.rules.specs.Refusals.{recordRefusal}
 use Rattle.rules.specs.Filters.{keptOf}
 use Rattle.rules.specs.Step.{lookedBy, lookedOf, recordKind, stepRefusal, stepEvent, stepHub}
 use Rattle.rules.specs.Pump.{Progress, placeAfter, steppedBy, stepped, pumpOf}
 use Rattle.promises.specs.Machines.{placeSaid, eventsSaid, stepsSaid}
+use Rattle.promises.specs.Runs.{Goes, endOf, pump-holds}
+use Rattle.promises.specs.Room.{accepted-fits}
 use Rattle.promises.specs.Waiting.{waitingList}
 use Rattle.history.specs.Rule.{recordsFrom}
 use Rattle.history.specs.Played.{Played, take, serve}
-use Rattle.history.specs.Flags.{and-parts}
 use Rattle.history.specs.Tails.{Less}
 use Rattle.history.specs.Brings.{Few}
 use Rattle.history.specs.Handed.{Still, none-still, take-few, serve-less, still}
-use Rattle.history.specs.Runs.{Goes, endOf, pump-holds}
 
 -- ---- a step
 
 -- what a step that is made does to a hub, b being what could be handed out before it
-pub data Makes (h : Hub) (s : List ℕ) (at : ℕ) (rs : List RawRecord) (b : ℕ) : Hub → ℕ → Type 0 where
+data Makes (h : Hub) (s : List ℕ) (at : ℕ) (rs : List RawRecord) (b : ℕ) : Hub → ℕ → Type 0 where
   serves : {g : Hub} → 0 < h .waiting → Played g rs → Less (g .flags) (waitingList g) b → Makes h s at rs b g at
-  takes : {g : Hub} → h .waiting ≡ 0 → at + recordSize ≤ length s → Played g (recordFields s at ∷ rs) → Few (g .flags) (waitingList g)
-      → Makes h s at rs b g (at + recordSize)
+  takes : {g : Hub} → h .waiting ≡ 0 → Played g (recordFields s at ∷ rs) → Few (g .flags) (waitingList g) → Makes h s at rs b g (at + recordSize)
 
-fits-inside : (s : List ℕ) (at : ℕ) → recordFits s at ≡ true → at + recordSize ≤ length s
-unfolding recordFits
-fits-inside s at e =
-    let room = leb-true recordSize (length s - at) (and-parts _ _ e .0) in
-    omega arith
-
-record-makes : (h : Hub) (s : List ℕ) (at : ℕ) (rs : List RawRecord) (b : ℕ) (fits : Bool) → recordFits s at ≡ fits → h .waiting ≡ 0
+record-makes : (h : Hub) (s : List ℕ) (at : ℕ) (rs : List RawRecord) (b : ℕ) → h .waiting ≡ 0
     → recordRefusal (lookedBy (readRecord s at)) (h .pads) (recordKind h (lookedBy (readRecord s at) .raw)) ≡ 0 → Played h rs
     → Makes h s at rs b (stepHub h (lookedBy (readRecord s at))) (at + recordSize)
 unfolding readRecord
-record-makes h s at rs b true e none ok w =
-    rw e (takes none (fits-inside s at e) (take (recordFields s at) none (rw e at ok) w) (take-few w (recordFields s at) none))
-record-makes h s at rs b false e none ok w = absurd (malformed (rw e at ok))
-  where
-    malformed : recordRefusal (lookedBy recordRead.Malformed) (h .pads) (recordKind h (lookedBy recordRead.Malformed .raw)) ≡ 0 → ⊥
-    malformed e = let z : _≡_ {A = ℕ} 8 0 = unfold recordRefusal in e in omega arith
+record-makes h s at rs b none ok w =
+    let fits = accepted-fits h s at ok in
+    rw fits (takes none (take (recordFields s at) none (rw fits at ok) w) (take-few w (recordFields s at) none))
 
 hub-makes : (h : Hub) (s : List ℕ) (at : ℕ) (rs : List RawRecord) (b : ℕ) (waits : Bool) → ltb 0 (h .waiting) ≡ waits
     → stepRefusal h (lookedOf (h .waiting) s at) ≡ 0 → Played h rs → Still h b
@@ -63,24 +51,23 @@ hub-makes h s at rs b true e ok w t =
     rw e (serves some (serve some w) (serve-less w some b t))
 hub-makes h s at rs b false e ok w t =
     let few = ltb-false 0 (h .waiting) e in
-    rw e (record-makes h s at rs b (recordFits s at) refl (omega arith) (rw e at ok) w)
+    rw e (record-makes h s at rs b (omega arith) (rw e at ok) w)
 
-pub step-makes : (s : List ℕ) (p : Progress) (rs : List RawRecord) (b left : ℕ) → Goes left s p → Played (p .hub) rs → Still (p .hub) b
+step-makes : (s : List ℕ) (p : Progress) (rs : List RawRecord) (b left : ℕ) → Goes left s p → Played (p .hub) rs → Still (p .hub) b
     → Makes (p .hub) s (p .at) rs b (stepped s p .hub) (stepped s p .at)
 unfolding stepped steppedBy
 step-makes s p rs b left goes w t = hub-makes (p .hub) s (p .at) rs b (ltb 0 (p .hub .waiting)) refl (goes .accepted) w t
 
 -- it is one step, and writes at most one event
-pub record Counts (p q : Progress) : Type 0 where
-  pub step : q .steps ≡ p .steps + 1
-  pub kept : p .events ≤ q .events
-  pub one : q .events ≤ p .events + 1
+record Counts (p q : Progress) : Type 0 where
+  step : q .steps ≡ p .steps + 1
+  one : q .events ≤ p .events + 1
 
-pub step-counts : (s : List ℕ) (p : Progress) → Counts p (stepped s p)
+step-counts : (s : List ℕ) (p : Progress) → Counts p (stepped s p)
 unfolding stepped steppedBy
 step-counts s p =
     let b = keptOf (p .hub .filters) (stepEvent (p .hub) (lookedOf (p .hub .waiting) s (p .at))) in
-    record { step = refl; kept = omega arith; one = omega (arith, one-at-most b) }
+    record { step = refl; one = omega (arith, one-at-most b) }
   where
     one-at-most : (b : Bool) → oneIf b ≤ 1
     one-at-most true = omega arith
@@ -97,7 +84,6 @@ mostHanded = 4
 pub record Took (s : List ℕ) (from : ℕ) (rs : List RawRecord) (b : ℕ) (p : Progress) : Type 0 where
   pub count : ℕ
   pub place : p .at ≡ from + recordSize * count
-  pub inside : from ≤ length s → p .at ≤ length s
   pub played : Played (p .hub) (recordsFrom count s from rs)
   pub bound : ℕ
   pub tail : Still (p .hub) bound
@@ -121,19 +107,17 @@ module _ (s : List ℕ) (from : ℕ) (rs : List RawRecord) (b : ℕ) where
       record {
         count = w .count;
         place = w .place;
-        inside = w .inside;
         played = played;
         bound = less .bound;
         tail = less .tail;
         events = omega (arith, less .less, w .events);
         steps = omega (arith, less .less, w .steps);
       }
-  took-by p w {g} out events steps one more (takes none fits played few) =
+  took-by p w {g} out events steps one more (takes none played few) =
       let at = w .place in
       record {
         count = suc (w .count);
         place = omega arith;
-        inside = λ i. fits;
         played = subst (Played g) (ap (λ (k : ℕ). recordFields s k ∷ recordsFrom (w .count) s from rs) at ∙ sym (one-more (w .count) s from rs)) played;
         bound = few .bound;
         tail = few .tail;
@@ -153,7 +137,7 @@ pub pump-counts : (h : Hub) (s : List ℕ) (place : ℕ) (out : List ℕ) (allow
 unfolding recordsFrom
 pump-counts h s place out allowance rs w b t =
     pump-holds s (Took s place rs b) (took-on s place rs b) h place out allowance
-    (record { count = 0; place = omega arith; inside = λ i. i; played = w; bound = b; tail = t; events = omega arith; steps = omega arith })
+    (record { count = 0; place = omega arith; played = w; bound = b; tail = t; events = omega arith; steps = omega arith })
 
 -- after a pump the records taken are those taken before it and the batch's between the place given and the place answered
 pub pump-took : (h : Hub) (s : List ℕ) (place : ℕ) (out : List ℕ) (allowance : ℕ) (rs : List RawRecord) (w : Played h rs)

@@ -23,6 +23,7 @@ use Rattle.rules.specs.Refusals.{thresholdsRefusal, pumpRefusal}
 use Rattle.rules.specs.Pump.{Run, pumpOf}
 use Rattle.rules.specs.Calls.{newOf, registerOf}
 use Rattle.promises.specs.Machines.{placeSaid, eventsSaid, stepsSaid}
+use Rattle.promises.specs.Room.{pump-stays}
 use Rattle.history.specs.Rule.{recordsFrom}
 use Rattle.history.specs.Played.{Played, fresh, register}
 use Rattle.history.specs.Handed.{Still, none-still, register-still}
@@ -96,7 +97,7 @@ rounds-end (suc left) h batch place out steps rs w b t size inside all few =
     let bounded = pump-bounded h batch place out allowance in
     let s = said (r .pumped .answer) in
     let at : tallied r .place ≡ place + recordSize * c .count = s .place ∙ c .place in
-    let past = c .inside inside in
+    let past = pump-stays batch place out h allowance .inside inside in
     let within : tallied r .place ≤ length batch = omega (arith, s .place) in
     let written : tallied r .events + c .bound ≤ b + mostHanded * c .count = omega (arith, s .events, c .events) in
     let made : tallied r .steps + c .bound ≤ b + mostHanded * c .count = omega (arith, s .steps, c .steps) in

@@ -6,3 +6,6 @@ pub mod Unique
 pub mod Machines
 pub mod Judged
 pub mod Said
+pub mod Runs
+pub mod Room
+pub mod Parts

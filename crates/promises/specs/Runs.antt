@@ -1,5 +1,5 @@
--- How a run goes, whatever is asked of it: what holds where it starts and each step that it makes keeps, holds where it ends, and there it has a reason to stop.
--- By induction on what is left of the allowance, once for all that is counted of a pump.
+-- How a run goes, whatever is asked of it: what holds where it starts and each step that it makes keeps, holds where it ends, and there it has a reason
+-- to stop. By induction on what is left of the allowance, once for all that is counted of a pump.
 use Prim.Native.Nat.{ℕ, zero, suc, _+_, _-_, _*_, _<_, _≤_}
 use mathlib.Core.Bool.{Bool, true, false, cond, _&&_}
 use mathlib.Core.List.{List}
@@ -27,7 +27,7 @@ endOf r =
     }
 
 -- it answers where it stands
-end-is : (v : Verdict) (p : Progress) → endOf (endedBy v p) ≡ p
+pub end-is : (v : Verdict) (p : Progress) → endOf (endedBy v p) ≡ p
 end-is going p = refl
 end-is (stopping why) p = by (eqb why drained) (eqb why full) refl refl
   where
@@ -110,7 +110,9 @@ module _ (s : List ℕ) (Holds : ℕ → Progress → Type 0)
 
   none-left : (v : Verdict) (p : Progress) → verdictOf zero s p ≡ v → Stops v zero s p
   unfolding verdictOf stopOf
-  none-left going p e = spent-stops (eqb (p .hub .waiting) 0 && eqb (length s - p .at) 0) (ltb (length (p .out) - eventSize * p .events) eventSize) (going-goes zero s p e .unstopped)
+  none-left going p e =
+      spent-stops (eqb (p .hub .waiting) 0 && eqb (length s - p .at) 0) (ltb (length (p .out) - eventSize * p .events) eventSize)
+      (going-goes zero s p e .unstopped)
   none-left (stopping why) p e = stop-by zero s p (stopAt zero s p) _ why refl e
   none-left (refusing number) p e = tt
 
@@ -119,11 +121,13 @@ module _ (s : List ℕ) (Holds : ℕ → Progress → Type 0)
   run-ends zero v p e w = record { left = 0; stop = p; holds = w; verdict = v; stops = none-left v p e; ends = refl }
   run-ends (suc left) going p e w = run-ends left (verdictOf left s (stepped s p)) (stepped s p) refl (keeps left p (going-goes (suc left) s p e) w)
   run-ends (suc left) (stopping why) p e w =
-      record { left = suc left; stop = p; holds = w; verdict = stopping why; stops = stop-by (suc left) s p (stopAt (suc left) s p) _ why refl e; ends = refl }
+      let stops = stop-by (suc left) s p (stopAt (suc left) s p) _ why refl e in
+      record { left = suc left; stop = p; holds = w; verdict = stopping why; stops = stops; ends = refl }
   run-ends (suc left) (refusing number) p e w =
       record { left = suc left; stop = p; holds = w; verdict = refusing number; stops = tt; ends = refl }
 
-  by-ends : (number : ℕ) (h : Hub) (place : ℕ) (out : List ℕ) (allowance : ℕ) → Holds allowance (startOf h place out) → Ending (pumpBy number h s place out allowance)
+  by-ends : (number : ℕ) (h : Hub) (place : ℕ) (out : List ℕ) (allowance : ℕ) → Holds allowance (startOf h place out)
+      → Ending (pumpBy number h s place out allowance)
   by-ends zero h place out allowance w = run-ends allowance (verdictOf allowance s (startOf h place out)) (startOf h place out) refl w
   by-ends (suc number) h place out allowance w =
       record { left = allowance; stop = startOf h place out; holds = w; verdict = refusing (suc number); stops = tt; ends = refl }
