@@ -40,7 +40,7 @@ pub record Size (x : Float) : Type 0 where
   pub most : size ≤ one
 
 -- every finite value is a whole number of units
-units-of : (s : Bool) (m : ℕ) (e : ℤ) → T (fits binary32 (fin s m e)) → (p : ℕ) × (m * up e * one ≡ p * down e)
+pub units-of : (s : Bool) (m : ℕ) (e : ℤ) → T (fits binary32 (fin s m e)) → (p : ℕ) × (m * up e * one ≡ p * down e)
 unfolding fits
 units-of s zero e h = (0, ap (λ (k : ℕ). k * one) (zero-mul (up e)) ∙ sym (zero-mul (down e)))
 units-of s (suc m) e h = let u = units-held (fin false (suc m) e) h (lt→ltb 0 (suc m) (zero-lt-suc m)) in (u .0, u .1 .1)

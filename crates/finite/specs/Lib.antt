@@ -7,3 +7,4 @@ pub mod Ends
 pub mod Magnitude
 pub mod Deadzone
 pub mod Kept
+pub mod Unmoved

@@ -15,11 +15,17 @@ pub record Named (names : List ℕ) (pad name r : ℕ) : Type 0 where
   pub is : r ≡ namedOf names pad name
   pub small : r ≤ nowhere
 
--- what the halving search finds among the 52 places from start on
-pub record Sought (codes : List ℕ) (start code r : ℕ) : Type 0 where
-  pub is : r ≡ seekOf halvings codes start placesPerPad code
+-- what the halving search finds among the n places from start on
+pub record Sought (codes : List ℕ) (start n code r : ℕ) : Type 0 where
+  pub is : r ≡ seekOf halvings codes start n code
   pub from : start ≤ r
-  pub to : r ≤ start + placesPerPad
+  pub to : r ≤ start + n
+
+-- the search among an odd number of places from start on goes on in the half from r on
+pub record Halved (codes : List ℕ) (start half code r : ℕ) : Type 0 where
+  pub is : seekOf halvings codes r half code ≡ seekOf halvings codes start (half + half + 1) code
+  pub from : start ≤ r
+  pub to : r ≤ start + half + 1
 
 -- what the scan finds among the 52 places from start on
 pub record Scanned (names : List ℕ) (start name r : ℕ) : Type 0 where

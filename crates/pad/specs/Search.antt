@@ -2,7 +2,7 @@
 -- what the check behind the halving search answers. By the tests that the definitions make. Assumes nothing.
 use Prim.Native.Nat.{ℕ, zero, suc, _+_, _-_, _*_, _/_, _^_, _<_, _≤_}
 use mathlib.Core.List.{List}
-use mathlib.Core.Path.{_≡_, refl, sym, _∙_, ap}
+use mathlib.Core.Path.{_≡_, refl, _∙_, ap}
 use native.Mathlib.Nat.{pow-suc}
 use native.Mathlib.Numerals.{sub-one}
 use native.Mathlib.Omega.{arith}
@@ -10,15 +10,14 @@ use lib.ListN.{getD}
 use borrow.Author.Tests.{lt-ltb, le-ltb, eq-eqb, ne-eqb}
 use Rattle.rules.specs.Names.{padLimit, placesPerPad, nowhere}
 use Rattle.rules.specs.Places.{halvings, seekOf, checkedOf, placeOf, scanOf}
+use Rattle.pad.specs.Found.{Sought, Halved}
 
 -- ---- the halving search
 
-pub seek-none : (k : ℕ) (codes : List ℕ) (lo n c : ℕ) → n ≤ 0 → lo ≡ seekOf k codes lo n c
+seek-none : (k : ℕ) (codes : List ℕ) (lo c : ℕ) → lo ≡ seekOf k codes lo 0 c
 unfolding seekOf
-seek-none zero codes lo n c none = refl
-seek-none (suc k) codes lo n c none =
-    let empty : n ≡ 0 = omega arith in
-    rw (eq-eqb n 0 empty)
+seek-none zero codes lo c = refl
+seek-none (suc k) codes lo c = refl
 
 -- a halving more changes nothing, where those there are suffice
 seek-more : (k : ℕ) (codes : List ℕ) (lo n c : ℕ) → n < 2 ^ k → seekOf (suc k) codes lo n c ≡ seekOf k codes lo n c
@@ -30,21 +29,63 @@ seek-more (suc k) codes lo n c few =
     let double : 2 ^ suc k ≡ 2 ^ k * 2 = pow-suc 2 k in
     rw (seek-more k codes (lo + n / 2 + 1) (n - n / 2 - 1) c (omega arith), seek-more k codes lo (n / 2) c (omega arith))
 
-module _ (codes : List ℕ) (lo n c : ℕ) (some : 0 < n) (few : n ≤ placesPerPad) where
+-- how the search goes on among k places: from m on, behind the middle, or before it
+module _ (codes : List ℕ) (lo n c middle k : ℕ) (some : 0 < n) (few : n ≤ placesPerPad) (at : middle ≡ lo + n / 2) where
   not-empty : n ≡ 0 → ⊥
   not-empty e = omega arith
 
-  pub seek-right : getD codes (lo + n / 2) 0 < c
-      → seekOf halvings codes lo n c ≡ seekOf halvings codes (lo + n / 2 + 1) (n - n / 2 - 1) c
+  seek-behind : (m : ℕ) → m ≡ middle + 1 → k ≡ n - n / 2 - 1 → getD codes middle 0 < c → seekOf halvings codes m k c ≡ seekOf halvings codes lo n c
   unfolding seekOf
-  seek-right below =
-      rw (ne-eqb n 0 not-empty, lt-ltb (getD codes (lo + n / 2) 0) c below)
-      (sym (seek-more 5 codes (lo + n / 2 + 1) (n - n / 2 - 1) c (omega arith)))
+  seek-behind m from left below =
+      rw (ne-eqb n 0 not-empty, ← at, lt-ltb (getD codes middle 0) c below, ← from, ← left) (seek-more 5 codes m k c (omega arith))
 
-  pub seek-left : c ≤ getD codes (lo + n / 2) 0 → seekOf halvings codes lo n c ≡ seekOf halvings codes lo (n / 2) c
+  seek-before : k ≡ n / 2 → c ≤ getD codes middle 0 → seekOf halvings codes lo k c ≡ seekOf halvings codes lo n c
   unfolding seekOf
-  seek-left above =
-      rw (ne-eqb n 0 not-empty, le-ltb (getD codes (lo + n / 2) 0) c above) (sym (seek-more 5 codes lo (n / 2) c (omega arith)))
+  seek-before left above = rw (ne-eqb n 0 not-empty, ← at, le-ltb (getD codes middle 0) c above, ← left) (seek-more 5 codes lo k c (omega arith))
+
+-- what is found among the places that are left is found among all
+module _ {codes : List ℕ} {lo n c r : ℕ} (middle : ℕ) where
+  pub sought-behind : {m : ℕ} → (0 < n) × (n ≤ placesPerPad) × (middle ≡ lo + n / 2) × (m ≡ middle + 1) → getD codes middle 0 < c
+      → Sought codes m (n - n / 2 - 1) c r → Sought codes lo n c r
+  sought-behind {m} (some, few, at, from) below s =
+      let f = s .from in
+      let t = s .to in
+      record { is = s .is ∙ seek-behind codes lo n c middle (n - n / 2 - 1) some few at m from refl below; from = omega arith; to = omega arith }
+
+  pub sought-before : (0 < n) × (n ≤ placesPerPad) × (middle ≡ lo + n / 2) → c ≤ getD codes middle 0 → Sought codes lo (n / 2) c r
+      → Sought codes lo n c r
+  sought-before (some, few, at) above s =
+      let t = s .to in
+      record { is = s .is ∙ seek-before codes lo n c middle (n / 2) some few at refl above; from = s .from; to = omega arith }
+
+pub sought-half : {codes : List ℕ} {lo half m c r : ℕ} → Halved codes lo half c m → Sought codes m half c r → Sought codes lo (half + half + 1) c r
+sought-half h s =
+    let above = h .from in
+    let below = h .to in
+    let f = s .from in
+    let t = s .to in
+    record { is = s .is ∙ h .is; from = omega arith; to = omega arith }
+
+pub sought-none : {codes : List ℕ} {lo c : ℕ} → Sought codes lo 0 c lo
+sought-none {codes} {lo} {c} = record { is = seek-none halvings codes lo c; from = omega arith; to = omega arith }
+
+-- the two halves of an odd number of places
+module _ {codes : List ℕ} {lo half c : ℕ} (few : half < placesPerPad / 2) where
+  pub halved-behind : getD codes (lo + half) 0 < c → Halved codes lo half c (lo + half + 1)
+  halved-behind below =
+      record {
+        is = seek-behind codes lo (half + half + 1) c (lo + half) half (omega arith) (omega arith) (omega arith) (lo + half + 1) refl (omega arith) below;
+        from = omega arith;
+        to = omega arith;
+      }
+
+  pub halved-before : c ≤ getD codes (lo + half) 0 → Halved codes lo half c lo
+  halved-before above =
+      record {
+        is = seek-before codes lo (half + half + 1) c (lo + half) half (omega arith) (omega arith) (omega arith) (omega arith) above;
+        from = omega arith;
+        to = omega arith;
+      }
 
 -- ---- the check
 

@@ -2,11 +2,11 @@
 // column and any number, and answers what its definition in the law book says.
 ghost use mathlib.Core.Path.{_≡_};
 ghost use mathlib.Core.Bool.{true, false};
-ghost use Prim.Native.Nat.{_+_, _≤_};
+ghost use Prim.Native.Nat.{_+_, _/_, _≤_, _<_};
 ghost use lib.ListN.{getD, set};
 ghost use Rattle.rules.specs.Names.{noName, placesPerPad, nowhere};
 ghost use Rattle.rules.specs.Places.{codeNamed, directionNamed, convertsOf, clearedOf};
-ghost use Rattle.pad.specs.Found.{Placed, Named, Sought, Scanned};
+ghost use Rattle.pad.specs.Found.{Placed, Named, Halved, Sought, Scanned};
 
 const PADS: u8 = 4;
 
@@ -18,24 +18,68 @@ const ALL_HATS: u8 = 15;
 
 // ---- the place of a code
 
-// The halving search: on codes that do not fall, the first of the 52 places whose code is not below the one asked for.
+// The halving search of the law book, written out: where the number of places is known, so is how far the middle lies from their start. An even number
+// has one place fewer behind the middle than before it; of an odd number, either half is as long.
+
+// Of `half` places, a middle and `half` places: where the half starts in which the search goes on.
+fn half_of(codes: &[u32; 208], start: usize, half: usize, code: u32) -> usize
+    requires { ⌜ (half < placesPerPad / 2) × (start + (half + half + 1) ≤ nowhere) ⌝ }
+    ensures { λ r. ⌜ Halved (now (codes .entry)) start half code r ⌝ }
+{
+    let middle = start + half;
+    if codes[middle] < code {
+        middle + 1
+    } else {
+        start
+    }
+}
+
+fn seek_two(codes: &[u32; 208], start: usize, code: u32) -> usize
+    requires { ⌜ start + 2 ≤ nowhere ⌝ }
+    ensures { λ r. ⌜ Sought (now (codes .entry)) start 2 code r ⌝ }
+{
+    if codes[start + 1] < code {
+        return start + 2;
+    }
+    half_of(codes, start, 0, code)
+}
+
+fn seek_six(codes: &[u32; 208], start: usize, code: u32) -> usize
+    requires { ⌜ start + 6 ≤ nowhere ⌝ }
+    ensures { λ r. ⌜ Sought (now (codes .entry)) start 6 code r ⌝ }
+{
+    if codes[start + 3] < code {
+        return seek_two(codes, start + 4, code);
+    }
+    let one = half_of(codes, start, 1, code);
+    half_of(codes, one, 0, code)
+}
+
+fn seek_twelve(codes: &[u32; 208], start: usize, code: u32) -> usize
+    requires { ⌜ start + 12 ≤ nowhere ⌝ }
+    ensures { λ r. ⌜ Sought (now (codes .entry)) start 12 code r ⌝ }
+{
+    if codes[start + 6] < code {
+        let two = half_of(codes, start + 7, 2, code);
+        return seek_two(codes, two, code);
+    }
+    seek_six(codes, start, code)
+}
+
+// On codes that do not fall, the first of a pad's 52 places whose code is not below the one asked for.
 fn seek(codes: &[u32; 208], start: usize, code: u32) -> usize
     requires { ⌜ start + placesPerPad ≤ nowhere ⌝ }
-    ensures { λ r. ⌜ Sought (now (codes .entry)) start code r ⌝ }
+    ensures { λ r. ⌜ Sought (now (codes .entry)) start placesPerPad code r ⌝ }
 {
-    let mut lo = start;
-    let mut n = PLACES_PER_PAD;
-    while 0 < n {
-        let half = n / 2;
-        let middle = lo + half;
-        if codes[middle] < code {
-            lo = middle + 1;
-            n = n - half - 1;
-        } else {
-            n = half;
-        }
+    if codes[start + 26] < code {
+        let twelve = half_of(codes, start + 27, 12, code);
+        return seek_twelve(codes, twelve, code);
     }
-    lo
+    if codes[start + 13] < code {
+        return seek_twelve(codes, start + 14, code);
+    }
+    let six = half_of(codes, start, 6, code);
+    seek_six(codes, six, code)
 }
 
 // The place of a code: one of the pad's that has it, or `NOWHERE`.

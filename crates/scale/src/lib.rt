@@ -120,10 +120,15 @@ pub fn threshold_of(min: i32, max: i32, deadzone: u32) -> f32
     (deadzone as f32) / range_of(min, max) * 2.0
 }
 
-// 000's `apply_deadzone`
+// 000's `apply_deadzone`. A threshold of 0, as triggers have, leaves a stick off its middle as it is: no root is needed.
 pub fn apply_deadzone(x: f32, y: f32, threshold: f32) -> Pair
     ensures { λ r. ⌜ r ≡ deadzoneOf x y threshold ⌝ }
 {
+    if threshold == 0.0 {
+        if 0.0 < x * x + y * y {
+            return Pair { x: x, y: y };
+        }
+    }
     let m = binary32::magnitude(x, y);
     if m <= threshold {
         return Pair { x: 0.0, y: 0.0 };

@@ -14,10 +14,10 @@ ghost use mathlib.Core.Path.{_≡_};
 ghost use mathlib.Core.List.{_++_};
 ghost use Prim.Native.Nat.{_+_, _≤_, _<_, _^_};
 ghost use lib.ListN.{length, drop};
-ghost use Rattle.rules.specs.Forms.{fieldOf, signedOf, opens, recordKindFits, readRecord, nameFits, eventKindFits, readEvent};
+ghost use Rattle.rules.specs.Forms.{fieldOf, signedOf, opens, recordKindFits, readRecord, nameFits, eventKindFits, readEvent, formBytes};
 ghost use Rattle.rules.specs.Events.{eventBytes};
 ghost use Rattle.rules.specs.Step.{lookedOf};
-ghost use Rattle.wire.specs.Bytes.{writtenOf};
+ghost use Rattle.wire.specs.Bytes.{swappedOf, laidOut};
 
 // ---- sizes, kinds and limits
 
@@ -230,37 +230,60 @@ pub fn read_event(s: &[u8]) -> EventRead
 
 // ---- an event written
 
-// A form's 22 bytes.
-fn form_bytes(f: EventForm) -> [u8; 22]
-    ensures { λ r. ⌜ r ≡ writtenOf f ⌝ }
+// The eight bytes of a number turned round. The compiler makes one instruction of it, and one store of the bytes of what it gives, the lowest first;
+// bytes that are stored the highest first it leaves single.
+fn swapped(x: u64) -> u64
+    ensures { λ r. ⌜ r ≡ swappedOf 8 x ⌝ }
 {
-    let c = f.code;
-    let b = f.bits;
-    let t = f.time;
+    let mut y: u64 = 0;
+    let mut left = x;
+    let mut i: usize = 0;
+    while i < 8 {
+        y = y * 256 + left % 256;
+        left = left / 256;
+        i += 1;
+    }
+    y
+}
+
+// An event's 22 bytes, its code, bits and time swapped.
+fn laid_out(kind: u8, pad: u8, name: u8, code: u64, bits: u64, time: u64) -> [u8; 22]
+    ensures { λ r. ⌜ r ≡ laidOut kind pad name code bits time ⌝ }
+{
     [
         0,
         20,
         1,
-        f.kind,
-        f.pad,
-        f.name,
-        (c / 0x100_0000 % 256) as u8,
-        (c / 0x1_0000 % 256) as u8,
-        (c / 0x100 % 256) as u8,
-        (c % 256) as u8,
-        (b / 0x100_0000 % 256) as u8,
-        (b / 0x1_0000 % 256) as u8,
-        (b / 0x100 % 256) as u8,
-        (b % 256) as u8,
-        (t / 0x100_0000_0000_0000 % 256) as u8,
-        (t / 0x1_0000_0000_0000 % 256) as u8,
-        (t / 0x100_0000_0000 % 256) as u8,
-        (t / 0x1_0000_0000 % 256) as u8,
-        (t / 0x100_0000 % 256) as u8,
-        (t / 0x1_0000 % 256) as u8,
-        (t / 0x100 % 256) as u8,
-        (t % 256) as u8,
+        kind,
+        pad,
+        name,
+        (code / 0x1_0000_0000 % 256) as u8,
+        (code / 0x100_0000_0000 % 256) as u8,
+        (code / 0x1_0000_0000_0000 % 256) as u8,
+        (code / 0x100_0000_0000_0000 % 256) as u8,
+        (bits / 0x1_0000_0000 % 256) as u8,
+        (bits / 0x100_0000_0000 % 256) as u8,
+        (bits / 0x1_0000_0000_0000 % 256) as u8,
+        (bits / 0x100_0000_0000_0000 % 256) as u8,
+        (time % 256) as u8,
+        (time / 0x100 % 256) as u8,
+        (time / 0x1_0000 % 256) as u8,
+        (time / 0x100_0000 % 256) as u8,
+        (time / 0x1_0000_0000 % 256) as u8,
+        (time / 0x100_0000_0000 % 256) as u8,
+        (time / 0x1_0000_0000_0000 % 256) as u8,
+        (time / 0x100_0000_0000_0000 % 256) as u8,
     ]
+}
+
+// A form's 22 bytes.
+fn form_bytes(f: EventForm) -> [u8; 22]
+    ensures { λ r. ⌜ r ≡ formBytes f ⌝ }
+{
+    let code = swapped(f.code as u64);
+    let bits = swapped(f.bits as u64);
+    let time = swapped(f.time);
+    laid_out(f.kind, f.pad, f.name, code, bits, time)
 }
 
 // One event at the start of the part that is lent; the bytes after it stay. The pump lends "the out buffer's part starting at 22 times the

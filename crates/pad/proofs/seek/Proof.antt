@@ -1,90 +1,78 @@
--- `pad::seek` meets its contract. The invariant: what is left to search lies among the 52 places, and searching it gives what the whole search gives.
--- Assumes nothing.
-use Prim.Native.Nat.{_+_, _≤_}
-use mathlib.Core.Path.{_≡_, refl, sym, _∙_}
-use native.Mathlib.Omega.{arith}
-use Rattle.rules.specs.Names.{placesPerPad}
-use Rattle.rules.specs.Places.{halvings, seekOf}
-use Rattle.pad.specs.Search.{seek-none, seek-right, seek-left}
+-- `pad::seek` meets its contract, by what the middles hold: 25 places are left behind the first, and of the 26 before it 12 behind the next, 13 before it.
+use borrow.Author.Needs.{needs}
+use Rattle.pad.specs.Search.{sought-behind, sought-before, sought-half}
 use Rattle.pad.proofs.seek.Statement.{statement}
 use Rattle.pad.proofs.seek.Tie as tie
 
-abbrev Inv-loop : tie.InvT-loop
-Inv-loop codes start code lo₀ n₀ lo n =
-    (start ≤ lo) × (lo + n ≤ start + placesPerPad) × (n ≤ placesPerPad)
-    × (seekOf halvings codes lo n code ≡ seekOf halvings codes start placesPerPad code)
+add-if1 : tie.Need-add-if1
+add-if1 c = search needs
 
-abbrev μ-loop : tie.MeasureT-loop
-μ-loop codes start code lo₀ n₀ lo n = n
+mul-if1 : tie.Need-mul-if1
+mul-if1 c = search needs
 
-loop-holds : tie.Need-loop-holds Inv-loop μ-loop
-loop-holds c = (omega arith, omega arith, omega arith, refl)
+element-copy-out-if1 : tie.Need-element-copy-out-if1
+element-copy-out-if1 c = search needs
 
-add-middle : tie.Need-add-middle Inv-loop μ-loop
-add-middle c = omega arith
+add-half-of : tie.Need-add-half-of
+add-half-of c = search needs
 
-mul-if1 : tie.Need-mul-if1 Inv-loop μ-loop
-mul-if1 c = omega arith
+half-of-requires : tie.Need-half-of-requires
+half-of-requires c κs = search needs
 
-element-copy-out-if1 : tie.Need-element-copy-out-if1 Inv-loop μ-loop
-element-copy-out-if1 c = omega arith
+seek-twelve-requires : tie.Need-seek-twelve-requires
+seek-twelve-requires c κs = search needs
 
-add-lo : tie.Need-add-lo Inv-loop μ-loop
-add-lo c = omega arith
+returns : tie.Need-returns
+returns c = sought-behind _ (search needs) (c .before .before .if1 .taken) (sought-half (c .before .half-of .ensures) (c .seek-twelve .ensures))
 
-sub-n : tie.Need-sub-n Inv-loop μ-loop
-sub-n c = omega arith
+add-if2 : tie.Need-add-if2
+add-if2 c = search needs
 
-sub-n-2 : tie.Need-sub-n-2 Inv-loop μ-loop
-sub-n-2 c = omega arith
+mul-if2 : tie.Need-mul-if2
+mul-if2 c = search needs
 
-loop-less : tie.Need-loop-less Inv-loop μ-loop
-loop-less c = omega arith
+element-copy-out-if2 : tie.Need-element-copy-out-if2
+element-copy-out-if2 c = search needs
 
-loop-again : tie.Need-loop-again Inv-loop μ-loop
-loop-again c = (
-  omega arith,
-  omega arith,
-  omega arith,
-  sym (seek-right _ _ _ _ (c .before .before .loop-test .taken) (c .before .before .before .loop .inv .2) (c .if1 .taken))
-      ∙ c .before .before .before .loop .inv .3,
-)
+add-seek-twelve : tie.Need-add-seek-twelve
+add-seek-twelve c = search needs
 
-loop-less-2 : tie.Need-loop-less-2 Inv-loop μ-loop
-loop-less-2 c = omega arith
+seek-twelve-requires-2 : tie.Need-seek-twelve-requires-2
+seek-twelve-requires-2 c κs = search needs
 
-loop-again-2 : tie.Need-loop-again-2 Inv-loop μ-loop
-loop-again-2 c = (
-  omega arith,
-  omega arith,
-  omega arith,
-  sym (seek-left _ _ _ _ (c .before .before .loop-test .taken) (c .before .before .before .loop .inv .2) (c .if1 .left))
-      ∙ c .before .before .before .loop .inv .3,
-)
+returns-2 : tie.Need-returns-2
+returns-2 c =
+    sought-before _ (search needs) (c .before .before .before .if1 .left)
+    (sought-behind _ (search needs) (c .before .if2 .taken) (c .seek-twelve2 .ensures))
 
-returns : tie.Need-returns Inv-loop μ-loop
-returns c =
-    record {
-      is = seek-none halvings _ _ _ _ (c .loop-test .left) ∙ c .before .loop .inv .3;
-      from = omega arith;
-      to = omega arith;
-    }
+half-of-requires-2 : tie.Need-half-of-requires-2
+half-of-requires-2 c κs = search needs
+
+seek-six-requires : tie.Need-seek-six-requires
+seek-six-requires c κs = search needs
+
+returns-3 : tie.Need-returns-3
+returns-3 c =
+    sought-before _ (search needs) (c .before .before .before .before .if1 .left)
+    (sought-before _ (search needs) (c .before .before .if2 .left) (sought-half (c .before .half-of2 .ensures) (c .seek-six .ensures)))
 
 pub seek-spec : {M : Type 1} → statement M
 seek-spec =
     tie.close
     (tie.spec
-    Inv-loop
-    μ-loop
-    loop-holds
-    add-middle
+    add-if1
     mul-if1
     element-copy-out-if1
-    add-lo
-    sub-n
-    sub-n-2
-    loop-less
-    loop-again
-    loop-less-2
-    loop-again-2
-    returns)
+    add-half-of
+    half-of-requires
+    seek-twelve-requires
+    returns
+    add-if2
+    mul-if2
+    element-copy-out-if2
+    add-seek-twelve
+    seek-twelve-requires-2
+    returns-2
+    half-of-requires-2
+    seek-six-requires
+    returns-3)

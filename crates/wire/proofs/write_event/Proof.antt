@@ -8,7 +8,6 @@ use lib.Seq.{paste}
 use borrow.Author.Needs.{needs}
 use Rattle.rules.specs.Forms.{formBytes}
 use Rattle.rules.specs.Events.{eventBytes}
-use Rattle.wire.specs.Bytes.{written-is}
 use Rattle.wire.proofs.Copied.{copied-length, copied-more, copied-all}
 use Rattle.wire.proofs.write_event.Statement.{statement}
 use Rattle.wire.proofs.write_event.Tie as tie
@@ -29,6 +28,7 @@ room : (c : tie.In-loop Inv-loop μ-loop) → length (c .before .before .form-by
 room c = omega arith
 
 loop-holds : tie.Need-loop-holds Inv-loop μ-loop
+unfolding formBytes
 loop-holds c = (omega arith, omega arith, ap length (c .form-bytes .ensures), refl)
 
 array-read-out : tie.Need-array-read-out Inv-loop μ-loop
@@ -70,9 +70,8 @@ returns c =
     let r : length bytes ≤ length (a .out .now) = omega arith in
     let n : l .i ≡ length bytes = omega arith in
     let t : l .i ≡ 22 = omega arith in
-    let is : bytes ≡ formBytes (c .before .before .before .form-of .result) = c .before .before .form-bytes .ensures ∙ written-is _ in
     copied-all _ _ _ _ r (l .inv .3) n ∙ ap (λ (k : ℕ). bytes ++ drop k (a .out .now)) t
-    ∙ ap (λ (b : List ℕ). b ++ drop 22 (a .out .now)) (is ∙ ap formBytes (c .before .before .before .form-of .ensures))
+    ∙ ap (λ (b : List ℕ). b ++ drop 22 (a .out .now)) (c .before .before .form-bytes .ensures ∙ ap formBytes (c .before .before .before .form-of .ensures))
 
 pub write-event-spec : {M : Type 1} → statement M
 write-event-spec =
