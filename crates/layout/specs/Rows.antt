@@ -42,7 +42,7 @@ module _ (s : List ℕ) (n i d last : ℕ) where
   abbrev rest : ℕ → List Row
   rest left = rowsFrom left s n (i + oneIf (elementNext s n i d)) (d + oneIf (directionNext s n i d)) (row .code)
 
-  rows-next : (left : ℕ) → 0 < left → rowsFrom left s n i d last ≡ row ∷ rest (left - 1)
+  pub rows-next : (left : ℕ) → 0 < left → rowsFrom left s n i d last ≡ row ∷ rest (left - 1)
   unfolding rowsFrom
   rows-next zero some = absurd (omega arith)
   rows-next (suc left) some = rw sub-one

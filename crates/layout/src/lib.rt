@@ -1,4 +1,6 @@
 // How registration lays a sheet out: the pad's 52 places in code order, the sheet's elements with the directions that it does not list merged in.
+use columns::Marks;
+use columns::Values;
 use rules::Element;
 use rules::Row;
 use rules::SheetElement;
@@ -9,9 +11,10 @@ ghost use lib.Dec.{eqb};
 ghost use lib.ListN.{length, getD};
 ghost use Rattle.rules.specs.Sheets.{elementOf, countOf, axisFits, elementFits, sheetRefusal, sheetOpening, elementSize};
 ghost use Rattle.rules.specs.Places.{noElement, axisElement, listedRow, unlistedRow, elementNext, directionNext, nextRow, oneIf, rowsOf};
-ghost use Rattle.rules.specs.Names.{noName, placesPerPad};
+ghost use Rattle.rules.specs.Names.{noName, placesPerPad, nowhere};
 ghost use Rattle.rules.specs.Calls.{renamesAfter};
 ghost use Rattle.layout.specs.Good.{Good};
+ghost use Rattle.layout.specs.Laid.{LaidOut};
 
 const SHEET_OPENING: usize = 5;
 
@@ -174,6 +177,42 @@ pub fn lay(s: &[u8]) -> [Row; 52]
     rows
 }
 
+// The same in place: the rows in the lent arrays, from `start` on.
+pub fn lay_in(
+    codes: &mut [u32; 208],
+    kinds: &mut [u8; 208],
+    names: &mut [u8; 208],
+    values: &mut Values,
+    marks: &mut Marks,
+    start: usize,
+    s: &[u8],
+)
+    requires { ⌜ (start + placesPerPad ≤ nowhere) × (sheetRefusal (now s) ≡ 0) ⌝ }
+    ensures { λ _. ⌜ LaidOut (now (codes .entry)) (now (kinds .entry)) (now (names .entry)) (now (values .entry)) (now (marks .entry)) start
+        (rowsOf (now (s .entry)) (countOf (now (s .entry))))
+        (now (codes .exit)) (now (kinds .exit)) (now (names .exit)) (now (values .exit)) (now (marks .exit)) ⌝ }
+{
+    let n = s[COUNT_AT] as u32;
+    let mut i: u32 = 0;
+    let mut d: u32 = 0;
+    let mut last: u32 = 0;
+    let mut k: usize = 0;
+    while k < PLACES_PER_PAD {
+        let row = next_row(s, n, i, d, last);
+        let element = one_if(element_next(s, n, i, d));
+        let direction = one_if(direction_next(s, n, i, d));
+        let place = start + k;
+        codes[place] = row.code;
+        kinds[place] = row.kind;
+        names[place] = row.name;
+        columns::put_element(values, marks, place, row.element);
+        last = row.code;
+        i = i + element;
+        d = d + direction;
+        k = k + 1;
+    }
+}
+
 // ---- a rename list
 
 // The name that a place gets: the list's i-th where the sheet lists the place, else none.
@@ -213,4 +252,41 @@ pub fn rename(renames: [u8; 208], kinds: [u8; 208], pad: u8, list: &[u8]) -> [u8
         left = left - 1;
     }
     column
+}
+
+// The length of a lent array is known once it is lent on as a slice. These calls leave no code.
+
+fn bytes_in(s: &[u8]) -> usize
+    ensures { λ r. ⌜ r ≡ length (now (s .entry)) ⌝ }
+{
+    s.len()
+}
+
+fn whole(s: &[u8; 208])
+    ensures { λ _. ⌜ length (now (s .entry)) ≡ nowhere ⌝ }
+{
+    bytes_in(s);
+}
+
+// The same in place.
+pub fn rename_in(renames: &mut [u8; 208], kinds: &[u8; 208], pad: u8, list: &[u8])
+    ensures { λ _. ⌜ now (renames .exit)
+        ≡ renamesAfter (now (renames .entry)) (now (kinds .entry)) (now (list .entry)) placesPerPad (placesPerPad * pad) 0 ⌝ }
+{
+    whole(renames);
+    let mut place = PLACES_PER_PAD * pad as usize;
+    let mut i: usize = 0;
+    let mut left = PLACES_PER_PAD;
+    while 0 < left {
+        if 208 <= place {
+            return;
+        }
+        let kind = kinds[place];
+        let name = name_given(kind, list, i);
+        let element = one_if(listed(kind)) as usize;
+        renames[place] = name;
+        place = place + 1;
+        i = i + element;
+        left = left - 1;
+    }
 }

@@ -1,0 +1,148 @@
+// The calls of document 01 that take an event's bytes, on a hub that is lent: `update` gives it to the state, `insert_event` to the queue. Each is lent the arrays
+// that it reads and changes, and answers what its definition in the law book says, at the hub that head and arrays stand for, whatever the others hold; a
+// refusal leaves the hub as it was.
+ghost use mathlib.Core.Path.{_≡_};
+ghost use mathlib.Core.Bool.{Bool};
+ghost use mathlib.Core.List.{List};
+ghost use Prim.Native.Nat.{ℕ};
+ghost use Rattle.rules.specs.Calls.{updateOf, insertOf};
+ghost use Rattle.hub.specs.Lent.{listed, columns, hubOf, answered};
+ghost use Rattle.calls_lent.specs.Judged.{updateForm, insertForm};
+use columns::Marks;
+use columns::QueueBytes;
+use columns::QueueCodes;
+use columns::Times;
+use columns::Values;
+use hub::AnsweredHead;
+use hub::Head;
+use rules::Answer;
+use rules::EventForm;
+use rules::EventRead;
+
+const MALFORMED: u8 = 8;
+
+// ---- update: 8, 6, 9, 11, 12
+
+// A form that is well made: refused, or done. Events of kinds 6 to 8 carry no code, and the place of theirs is looked up as the definition has it.
+fn update_form(
+    head: Head,
+    codes: &[u32; 208],
+    touched: &mut [bool; 208],
+    moved: &mut [bool; 208],
+    values: &mut Values,
+    times: &mut Times,
+    marks: &mut Marks,
+    f: EventForm,
+) -> Answer
+    ensures { λ r. ⌜ ((kinds names renames queuebytes queuecodes : List ℕ) →
+        answered head (listed (now (codes .entry)) kinds names renames)
+        (columns (now (touched .exit)) (now (moved .exit)) (now (values .exit)) (now (times .exit)) (now (marks .exit)) queuebytes queuecodes) r
+        ≡ updateForm (hubOf head (listed (now (codes .entry)) kinds names renames)
+        (columns (now (touched .entry)) (now (moved .entry)) (now (values .entry)) (now (times .entry)) (now (marks .entry)) queuebytes queuecodes)) f) ⌝ }
+{
+    let place = pad::place_of(codes, f.pad, f.code);
+    let refusal = refusals::form_refusal(f, head.pads, place);
+    if refusal != 0 {
+        return Answer::Refused(refusal);
+    }
+    let e = events::form_event(f);
+    let at = pad::place_of(codes, e.pad, events::code_of(e));
+    cells::update(
+        touched,
+        moved,
+        values,
+        times,
+        marks,
+        at,
+        true,
+        e,
+        head.counter,
+    );
+    Answer::Done
+}
+
+// Gives an event to the state.
+pub fn update(
+    head: Head,
+    codes: &[u32; 208],
+    touched: &mut [bool; 208],
+    moved: &mut [bool; 208],
+    values: &mut Values,
+    times: &mut Times,
+    marks: &mut Marks,
+    event: &[u8],
+) -> Answer
+    ensures { λ r. ⌜ ((kinds names renames queuebytes queuecodes : List ℕ) →
+        answered head (listed (now (codes .entry)) kinds names renames)
+        (columns (now (touched .exit)) (now (moved .exit)) (now (values .exit)) (now (times .exit)) (now (marks .exit)) queuebytes queuecodes) r
+        ≡ updateOf (hubOf head (listed (now (codes .entry)) kinds names renames)
+        (columns (now (touched .entry)) (now (moved .entry)) (now (values .entry)) (now (times .entry)) (now (marks .entry)) queuebytes queuecodes))
+        (now (event .entry))) ⌝ }
+{
+    let read = wire::read_event(event);
+    match read {
+        EventRead::Form(f) => update_form(head, codes, touched, moved, values, times, marks, f),
+        EventRead::Malformed => Answer::Refused(MALFORMED),
+    }
+}
+
+// ---- insert_event: the same, then 13
+
+fn insert_form(
+    head: Head,
+    codes: &[u32; 208],
+    values: &mut Values,
+    times: &mut Times,
+    queuebytes: &mut QueueBytes,
+    queuecodes: &mut QueueCodes,
+    f: EventForm,
+) -> AnsweredHead
+    ensures { λ r. ⌜ ((kinds names renames : List ℕ) (touched moved marks : List Bool) →
+        answered (r .head) (listed (now (codes .entry)) kinds names renames)
+        (columns touched moved (now (values .exit)) (now (times .exit)) marks (now (queuebytes .exit)) (now (queuecodes .exit))) (r .answer)
+        ≡ insertForm (hubOf head (listed (now (codes .entry)) kinds names renames)
+        (columns touched moved (now (values .entry)) (now (times .entry)) marks (now (queuebytes .entry)) (now (queuecodes .entry)))) f) ⌝ }
+{
+    let mut h = head;
+    let place = pad::place_of(codes, f.pad, f.code);
+    let refusal = refusals::insert_refusal(f, h.pads, place, h.waiting);
+    if refusal != 0 {
+        return AnsweredHead {
+            head: h,
+            answer: Answer::Refused(refusal),
+        };
+    }
+    let e = events::form_event(f);
+    h.waiting = cells::push(values, times, queuebytes, queuecodes, h.head, h.waiting, e);
+    AnsweredHead {
+        head: h,
+        answer: Answer::Done,
+    }
+}
+
+// Lets an event wait.
+pub fn insert_event(
+    head: Head,
+    codes: &[u32; 208],
+    values: &mut Values,
+    times: &mut Times,
+    queuebytes: &mut QueueBytes,
+    queuecodes: &mut QueueCodes,
+    event: &[u8],
+) -> AnsweredHead
+    ensures { λ r. ⌜ ((kinds names renames : List ℕ) (touched moved marks : List Bool) →
+        answered (r .head) (listed (now (codes .entry)) kinds names renames)
+        (columns touched moved (now (values .exit)) (now (times .exit)) marks (now (queuebytes .exit)) (now (queuecodes .exit))) (r .answer)
+        ≡ insertOf (hubOf head (listed (now (codes .entry)) kinds names renames)
+        (columns touched moved (now (values .entry)) (now (times .entry)) marks (now (queuebytes .entry)) (now (queuecodes .entry))))
+        (now (event .entry))) ⌝ }
+{
+    let read = wire::read_event(event);
+    match read {
+        EventRead::Form(f) => insert_form(head, codes, values, times, queuebytes, queuecodes, f),
+        EventRead::Malformed => AnsweredHead {
+            head: head,
+            answer: Answer::Refused(MALFORMED),
+        },
+    }
+}

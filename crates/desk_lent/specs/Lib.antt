@@ -1,0 +1,4 @@
+pub mod Heads
+pub mod Fresh
+pub mod Register
+pub mod Rename

@@ -1,0 +1,73 @@
+-- `passing::mark_joins` meets its contract: nothing below Connected, else what the calls ensure.
+use borrow.Author.Needs.{needs}
+use mathlib.Core.Path.{_∙_}
+use Rattle.passing.specs.Passing.{no-marks}
+use Rattle.passing.proofs.mark_joins.Statement.{statement}
+use Rattle.passing.proofs.mark_joins.Tie as tie
+
+returns : tie.Need-returns
+returns c = no-marks _ _ _ _ _ _ _ (c .if1 .taken)
+
+wide-requires : tie.Need-wide-requires
+wide-requires c κs = search needs
+
+join-run-requires : tie.Need-join-run-requires
+join-run-requires c κs = search needs
+
+join-run-requires-2 : tie.Need-join-run-requires-2
+join-run-requires-2 c κs = search needs
+
+connect-requires : tie.Need-connect-requires
+connect-requires c κs = search needs
+
+forget-requires : tie.Need-forget-requires
+forget-requires c κs = search needs
+
+mul-clear : tie.Need-mul-clear
+mul-clear c = search needs
+
+clear-requires : tie.Need-clear-requires
+clear-requires c κs = search needs
+
+mul-clear-2 : tie.Need-mul-clear-2
+mul-clear-2 c = search needs
+
+clear-requires-2 : tie.Need-clear-requires-2
+clear-requires-2 c κs = search needs
+
+mul-clear-flags : tie.Need-mul-clear-flags
+mul-clear-flags c = search needs
+
+clear-flags-requires : tie.Need-clear-flags-requires
+clear-flags-requires c κs = search needs
+
+returns-2 : tie.Need-returns-2
+returns-2 c =
+    let runs = c .before .before .before .before .before .before .before .before .before .before in
+    let ep = runs .before .before .wide .ensures .0 in
+    let em = runs .before .join-run .ensures in
+    record {
+      connected-is = c .before .before .before .before .before .before .before .before .connect .ensures;
+      renamed-is = c .before .before .before .before .before .before .forget .ensures;
+      touched-is = c .before .before .before .before .clear .ensures ∙ rw (em, ep);
+      moved-is = c .before .before .clear2 .ensures ∙ rw (em, ep);
+      flags-is = c .clear-flags .ensures ∙ rw (runs .join-run2 .ensures, ep);
+    }
+
+pub mark-joins-spec : {M : Type 1} → statement M
+mark-joins-spec =
+    tie.close
+    (tie.spec
+    returns
+    wide-requires
+    join-run-requires
+    join-run-requires-2
+    connect-requires
+    forget-requires
+    mul-clear
+    clear-requires
+    mul-clear-2
+    clear-requires-2
+    mul-clear-flags
+    clear-flags-requires
+    returns-2)

@@ -1,0 +1,440 @@
+// The queries of document 01 on a hub that is lent: each takes the head and the arrays that it reads, and changes nothing. "Query: 6, 16"; "A query by a code
+// not known reads false or 0.0". Each answers what its definition in the law book says, at the hub that head and arrays stand for, for any numbers and whatever
+// the arrays hold that it is not lent.
+ghost use mathlib.Core.Path.{_≡_};
+ghost use mathlib.Core.Bool.{Bool, true, false};
+ghost use mathlib.Core.List.{List};
+ghost use Prim.Native.Nat.{ℕ, _≤_};
+ghost use lib.ListN.{getD};
+ghost use lib.Ieee.{Float};
+ghost use Rattle.rules.specs.Names.{nowhere};
+ghost use Rattle.rules.specs.State.{readPressed, readValue};
+ghost use Rattle.rules.specs.Hub.{pastButton, pastAxis};
+ghost use Rattle.rules.specs.Queries.{truthBy, valueBy, buttonBy, axisBy, numberBy};
+ghost use Rattle.rules.specs.Queries.{pressedByCode, pressedByName, connectedOf, valueByCode, valueByName, thresholdByCode};
+ghost use Rattle.rules.specs.Queries.{buttonByCode, buttonByName, axisByCode, axisByName, nameByCode, codeByName};
+ghost use Rattle.gather.specs.Sight.{PlaceIs};
+ghost use Rattle.columns.specs.Columns.{buttonsOf, axesOf};
+ghost use Rattle.hub.specs.Lent.{Listed, Columns, listed, columns, hubOf};
+ghost use Rattle.queries_lent.specs.Button.{buttonPlaceOf};
+use columns::Marks;
+use columns::Times;
+use columns::Values;
+use hub::Head;
+use rules::AxisAnswer;
+use rules::AxisData;
+use rules::ButtonAnswer;
+use rules::ButtonData;
+use rules::NumberAnswer;
+use rules::TruthAnswer;
+use rules::ValueAnswer;
+
+const ELEMENT_AXIS: u8 = 2;
+
+// ---- an answer: the refusal's number, else what was asked for, else that it is absent
+
+fn truth(refusal: u8, b: bool) -> TruthAnswer
+    ensures { λ r. ⌜ r ≡ truthBy refusal b ⌝ }
+{
+    if refusal == 0 {
+        TruthAnswer::Is(b)
+    } else {
+        TruthAnswer::Refused(refusal)
+    }
+}
+
+fn number(refusal: u8, here: bool, x: u32) -> NumberAnswer
+    ensures { λ r. ⌜ r ≡ numberBy refusal here x ⌝ }
+{
+    if refusal != 0 {
+        return NumberAnswer::Refused(refusal);
+    }
+    if here {
+        NumberAnswer::Number(x)
+    } else {
+        NumberAnswer::Absent
+    }
+}
+
+fn value_or_absent(refusal: u8, here: bool, v: f32) -> ValueAnswer
+    ensures { λ r. ⌜ r ≡ valueBy refusal here v ⌝ }
+{
+    if refusal != 0 {
+        return ValueAnswer::Refused(refusal);
+    }
+    if here {
+        ValueAnswer::Value(v)
+    } else {
+        ValueAnswer::Absent
+    }
+}
+
+fn button_or_absent(refusal: u8, here: bool, b: ButtonData) -> ButtonAnswer
+    ensures { λ r. ⌜ r ≡ buttonBy refusal here b ⌝ }
+{
+    if refusal != 0 {
+        return ButtonAnswer::Refused(refusal);
+    }
+    if here {
+        ButtonAnswer::Data(b)
+    } else {
+        ButtonAnswer::Absent
+    }
+}
+
+fn axis_or_absent(refusal: u8, here: bool, a: AxisData) -> AxisAnswer
+    ensures { λ r. ⌜ r ≡ axisBy refusal here a ⌝ }
+{
+    if refusal != 0 {
+        return AxisAnswer::Refused(refusal);
+    }
+    if here {
+        AxisAnswer::Data(a)
+    } else {
+        AxisAnswer::Absent
+    }
+}
+
+// ---- what stands at a place, behind a refusal
+
+fn pressed_at(
+    touched: &[bool; 208],
+    values: &Values,
+    times: &Times,
+    marks: &Marks,
+    refusal: u8,
+    place: usize,
+) -> TruthAnswer
+    requires { ⌜ place ≤ nowhere ⌝ }
+    ensures { λ r. ⌜ r ≡ truthBy refusal (readPressed (getD (now (touched .entry)) place false)
+        (getD (buttonsOf (now (values .entry)) (now (times .entry)) (now (marks .entry))) place pastButton)) ⌝ }
+{
+    let known = pad::bool_at(touched, place);
+    let b = columns::button_at(values, times, marks, place);
+    truth(refusal, state::read_pressed(known, b))
+}
+
+fn value_at(
+    touched: &[bool; 208],
+    moved: &[bool; 208],
+    values: &Values,
+    times: &Times,
+    marks: &Marks,
+    refusal: u8,
+    place: usize,
+) -> ValueAnswer
+    requires { ⌜ place ≤ nowhere ⌝ }
+    ensures { λ r. ⌜ r ≡ valueBy refusal true (readValue (getD (now (moved .entry)) place false)
+        (getD (axesOf (now (values .entry)) (now (times .entry))) place pastAxis) (getD (now (touched .entry)) place false)
+        (getD (buttonsOf (now (values .entry)) (now (times .entry)) (now (marks .entry))) place pastButton)) ⌝ }
+{
+    let sticks = pad::bool_at(moved, place);
+    let a = columns::axis_at(values, times, place);
+    let known = pad::bool_at(touched, place);
+    let b = columns::button_at(values, times, marks, place);
+    value_or_absent(refusal, true, state::read_value(sticks, a, known, b))
+}
+
+fn button_at(
+    touched: &[bool; 208],
+    values: &Values,
+    times: &Times,
+    marks: &Marks,
+    refusal: u8,
+    place: usize,
+) -> ButtonAnswer
+    requires { ⌜ place ≤ nowhere ⌝ }
+    ensures { λ r. ⌜ r ≡ buttonBy refusal (getD (now (touched .entry)) place false)
+        (getD (buttonsOf (now (values .entry)) (now (times .entry)) (now (marks .entry))) place pastButton) ⌝ }
+{
+    let known = pad::bool_at(touched, place);
+    let b = columns::button_at(values, times, marks, place);
+    button_or_absent(refusal, known, b)
+}
+
+fn axis_at(
+    moved: &[bool; 208],
+    values: &Values,
+    times: &Times,
+    refusal: u8,
+    place: usize,
+) -> AxisAnswer
+    requires { ⌜ place ≤ nowhere ⌝ }
+    ensures { λ r. ⌜ r ≡ axisBy refusal (getD (now (moved .entry)) place false)
+        (getD (axesOf (now (values .entry)) (now (times .entry))) place pastAxis) ⌝ }
+{
+    let sticks = pad::bool_at(moved, place);
+    let a = columns::axis_at(values, times, place);
+    axis_or_absent(refusal, sticks, a)
+}
+
+// ---- pressed
+
+pub fn is_pressed_by_code(
+    head: Head,
+    codes: &[u32; 208],
+    touched: &[bool; 208],
+    values: &Values,
+    times: &Times,
+    marks: &Marks,
+    p: u8,
+    code: u32,
+) -> TruthAnswer
+    ensures { λ r. ⌜ ((kinds names renames queuebytes queuecodes : List ℕ) (moved : List Bool) →
+        r ≡ pressedByCode (hubOf head (listed (now (codes .entry)) kinds names renames)
+        (columns (now (touched .entry)) moved (now (values .entry)) (now (times .entry)) (now (marks .entry)) queuebytes queuecodes))
+        p code) ⌝ }
+{
+    let refusal = refusals::pad_refusal(head.pads, p);
+    let place = pad::place_of(codes, p, code);
+    pressed_at(touched, values, times, marks, refusal, place)
+}
+
+// "`is_pressed` by a name that no element has falls back to `to_nec`"
+fn button_place<'a>(
+    codes: &'a [u32; 208],
+    names: &'a [u8; 208],
+    renames: &'a [u8; 208],
+    renamed: &'a [bool; 4],
+    p: u8,
+    name: u8,
+) -> usize
+    ensures { λ r. ⌜ PlaceIs (buttonPlaceOf (now (codes .entry)) (now (names .entry)) (now (renames .entry)) (now (renamed .entry)) p name) r ⌝ }
+{
+    let place = gather::present_place(names, renames, renamed, p, name);
+    if place < pad::NOWHERE {
+        place
+    } else {
+        pad::place_of(codes, p, names::to_nec(name))
+    }
+}
+
+pub fn is_pressed<'s>(
+    head: Head,
+    codes: &'s [u32; 208],
+    names: &'s [u8; 208],
+    renames: &'s [u8; 208],
+    touched: &[bool; 208],
+    values: &Values,
+    times: &Times,
+    marks: &Marks,
+    p: u8,
+    name: u8,
+) -> TruthAnswer
+    ensures { λ r. ⌜ ((kinds queuebytes queuecodes : List ℕ) (moved : List Bool) →
+        r ≡ pressedByName (hubOf head (listed (now (codes .entry)) kinds (now (names .entry)) (now (renames .entry)))
+        (columns (now (touched .entry)) moved (now (values .entry)) (now (times .entry)) (now (marks .entry)) queuebytes queuecodes))
+        p name) ⌝ }
+{
+    let refusal = refusals::button_query_refusal(head.pads, p, name);
+    let place = button_place(codes, names, renames, &head.renamed, p, name);
+    pressed_at(touched, values, times, marks, refusal, place)
+}
+
+// ---- value
+
+pub fn value_by_code(
+    head: Head,
+    codes: &[u32; 208],
+    touched: &[bool; 208],
+    moved: &[bool; 208],
+    values: &Values,
+    times: &Times,
+    marks: &Marks,
+    p: u8,
+    code: u32,
+) -> ValueAnswer
+    ensures { λ r. ⌜ ((kinds names renames queuebytes queuecodes : List ℕ) →
+        r ≡ valueByCode (hubOf head (listed (now (codes .entry)) kinds names renames)
+        (columns (now (touched .entry)) (now (moved .entry)) (now (values .entry)) (now (times .entry)) (now (marks .entry)) queuebytes queuecodes))
+        p code) ⌝ }
+{
+    let refusal = refusals::pad_refusal(head.pads, p);
+    let place = pad::place_of(codes, p, code);
+    value_at(touched, moved, values, times, marks, refusal, place)
+}
+
+pub fn value<'s>(
+    head: Head,
+    names: &'s [u8; 208],
+    renames: &'s [u8; 208],
+    touched: &[bool; 208],
+    moved: &[bool; 208],
+    values: &Values,
+    times: &Times,
+    marks: &Marks,
+    p: u8,
+    name: u8,
+) -> ValueAnswer
+    ensures { λ r. ⌜ ((codes kinds queuebytes queuecodes : List ℕ) →
+        r ≡ valueByName (hubOf head (listed codes kinds (now (names .entry)) (now (renames .entry)))
+        (columns (now (touched .entry)) (now (moved .entry)) (now (values .entry)) (now (times .entry)) (now (marks .entry)) queuebytes queuecodes))
+        p name) ⌝ }
+{
+    let refusal = refusals::axis_query_refusal(head.pads, p, name);
+    let place = gather::present_place(names, renames, &head.renamed, p, name);
+    value_at(touched, moved, values, times, marks, refusal, place)
+}
+
+// ---- records
+
+pub fn button_data_by_code(
+    head: Head,
+    codes: &[u32; 208],
+    touched: &[bool; 208],
+    values: &Values,
+    times: &Times,
+    marks: &Marks,
+    p: u8,
+    code: u32,
+) -> ButtonAnswer
+    ensures { λ r. ⌜ ((kinds names renames queuebytes queuecodes : List ℕ) (moved : List Bool) →
+        r ≡ buttonByCode (hubOf head (listed (now (codes .entry)) kinds names renames)
+        (columns (now (touched .entry)) moved (now (values .entry)) (now (times .entry)) (now (marks .entry)) queuebytes queuecodes))
+        p code) ⌝ }
+{
+    let refusal = refusals::pad_refusal(head.pads, p);
+    let place = pad::place_of(codes, p, code);
+    button_at(touched, values, times, marks, refusal, place)
+}
+
+pub fn button_data<'s>(
+    head: Head,
+    names: &'s [u8; 208],
+    renames: &'s [u8; 208],
+    touched: &[bool; 208],
+    values: &Values,
+    times: &Times,
+    marks: &Marks,
+    p: u8,
+    name: u8,
+) -> ButtonAnswer
+    ensures { λ r. ⌜ ((codes kinds queuebytes queuecodes : List ℕ) (moved : List Bool) →
+        r ≡ buttonByName (hubOf head (listed codes kinds (now (names .entry)) (now (renames .entry)))
+        (columns (now (touched .entry)) moved (now (values .entry)) (now (times .entry)) (now (marks .entry)) queuebytes queuecodes))
+        p name) ⌝ }
+{
+    let refusal = refusals::button_query_refusal(head.pads, p, name);
+    let place = gather::present_place(names, renames, &head.renamed, p, name);
+    button_at(touched, values, times, marks, refusal, place)
+}
+
+pub fn axis_data_by_code(
+    head: Head,
+    codes: &[u32; 208],
+    moved: &[bool; 208],
+    values: &Values,
+    times: &Times,
+    p: u8,
+    code: u32,
+) -> AxisAnswer
+    ensures { λ r. ⌜ ((kinds names renames queuebytes queuecodes : List ℕ) → (touched marks : List Bool) →
+        r ≡ axisByCode (hubOf head (listed (now (codes .entry)) kinds names renames)
+        (columns touched (now (moved .entry)) (now (values .entry)) (now (times .entry)) marks queuebytes queuecodes))
+        p code) ⌝ }
+{
+    let refusal = refusals::pad_refusal(head.pads, p);
+    let place = pad::place_of(codes, p, code);
+    axis_at(moved, values, times, refusal, place)
+}
+
+pub fn axis_data<'s>(
+    head: Head,
+    names: &'s [u8; 208],
+    renames: &'s [u8; 208],
+    moved: &[bool; 208],
+    values: &Values,
+    times: &Times,
+    p: u8,
+    name: u8,
+) -> AxisAnswer
+    ensures { λ r. ⌜ ((codes kinds queuebytes queuecodes : List ℕ) → (touched marks : List Bool) →
+        r ≡ axisByName (hubOf head (listed codes kinds (now (names .entry)) (now (renames .entry)))
+        (columns touched (now (moved .entry)) (now (values .entry)) (now (times .entry)) marks queuebytes queuecodes))
+        p name) ⌝ }
+{
+    let refusal = refusals::axis_query_refusal(head.pads, p, name);
+    let place = gather::present_place(names, renames, &head.renamed, p, name);
+    axis_at(moved, values, times, refusal, place)
+}
+
+// ---- the sheet: thresholds, names and codes
+
+// "Deadzone threshold. Axis elements only": 000's `deadzone_threshold`.
+pub fn deadzone_threshold(
+    head: Head,
+    codes: &[u32; 208],
+    kinds: &[u8; 208],
+    values: &Values,
+    marks: &Marks,
+    p: u8,
+    code: u32,
+) -> ValueAnswer
+    ensures { λ r. ⌜ ((names renames times queuebytes queuecodes : List ℕ) → (touched moved : List Bool) →
+        r ≡ thresholdByCode (hubOf head (listed (now (codes .entry)) (now (kinds .entry)) names renames)
+        (columns touched moved (now (values .entry)) times (now (marks .entry)) queuebytes queuecodes))
+        p code) ⌝ }
+{
+    let refusal = refusals::pad_refusal(head.pads, p);
+    let place = pad::place_of(codes, p, code);
+    let kind = pad::kind_at(kinds, place);
+    let element = columns::element_at(values, marks, place);
+    value_or_absent(refusal, kind == ELEMENT_AXIS, element.threshold)
+}
+
+// 000's `axis_or_btn_name`.
+pub fn axis_or_btn_name<'s>(
+    head: Head,
+    codes: &[u32; 208],
+    names: &'s [u8; 208],
+    renames: &'s [u8; 208],
+    p: u8,
+    code: u32,
+) -> NumberAnswer
+    ensures { λ r. ⌜ ((kinds times queuebytes queuecodes : List ℕ) → (touched moved marks : List Bool) (values : List Float) →
+        r ≡ nameByCode (hubOf head (listed (now (codes .entry)) kinds (now (names .entry)) (now (renames .entry)))
+        (columns touched moved values times marks queuebytes queuecodes))
+        p code) ⌝ }
+{
+    let refusal = refusals::pad_refusal(head.pads, p);
+    let place = pad::place_of(codes, p, code);
+    let name = gather::present_name(names, renames, &head.renamed, p, place);
+    number(refusal, name != names::NO_NAME, name as u32)
+}
+
+// 000's `button_code` and `axis_code`: the name's byte says which.
+pub fn code_of_name<'s>(
+    head: Head,
+    codes: &[u32; 208],
+    names: &'s [u8; 208],
+    renames: &'s [u8; 208],
+    p: u8,
+    name: u8,
+) -> NumberAnswer
+    ensures { λ r. ⌜ ((kinds times queuebytes queuecodes : List ℕ) → (touched moved marks : List Bool) (values : List Float) →
+        r ≡ codeByName (hubOf head (listed (now (codes .entry)) kinds (now (names .entry)) (now (renames .entry)))
+        (columns touched moved values times marks queuebytes queuecodes))
+        p name) ⌝ }
+{
+    let refusal = refusals::name_query_refusal(head.pads, p, name);
+    let place = gather::present_place(names, renames, &head.renamed, p, name);
+    let code = pad::code_at(codes, place);
+    number(refusal, place < pad::NOWHERE, code)
+}
+
+// ---- the head
+
+// "connected but from a taken Disconnected record to the next Connected"
+pub fn is_connected(head: Head, p: u8) -> TruthAnswer
+    ensures { λ r. ⌜ ((s : Listed) (t : Columns) → r ≡ connectedOf (hubOf head s t) p) ⌝ }
+{
+    let refusal = refusals::pad_refusal(head.pads, p);
+    truth(refusal, pad::pad_bool(&head.connected, p))
+}
+
+// How many events wait.
+pub fn waiting(head: Head) -> u8
+    ensures { λ r. ⌜ ((s : Listed) (t : Columns) → r ≡ hubOf head s t .waiting) ⌝ }
+{
+    head.waiting
+}
