@@ -1,9 +1,9 @@
--- `floor_root` meets its contract. The invariant: s is not below the root. The measure is s, which falls while s * s is above w (`closer-falls`).
+-- `floor_root` meets its contract. The invariant: s is not below the root, and t is Newton's step from s. The measure is s.
+-- Where the step does not go down, s * s ≤ w (`closer-done`). Assumes nothing.
 use mathlib.Core.Path.{_≡_, sym, subst}
 use Prim.Native.Nat.{ℕ, _+_, _*_, _/_, _≤_, _<_}
 use native.Mathlib.Omega.{arith}
-use Rattle.binary32.specs.WholeRoot.{square}
-use Rattle.binary32.specs.Newton.{closer-above, closer-falls, closer-pos}
+use Rattle.binary32.specs.Newton.{closer-above, closer-done, closer-pos}
 use Rattle.binary32.proofs.floor_root.Statement.{statement}
 use Rattle.binary32.proofs.floor_root.Tie as tie
 use Rattle.binary32.proofs.floor_root.Reads as reads
@@ -22,36 +22,52 @@ next w s t p q e l =
     record { some = closer-pos w t p a; few = l; above = a }
 
 abbrev Inv-loop : tie.InvT-loop
-Inv-loop w s₀ s = Above w s
+Inv-loop w s₀ t₀ s t = Above w s × (t ≡ (s + w / s) / 2)
 
 abbrev μ-loop : tie.MeasureT-loop
-μ-loop w s₀ s = s
+μ-loop w s₀ t₀ s t = s
 
 closer-requires : tie.Need-closer-requires Inv-loop μ-loop
 closer-requires c κs = omega arith
 
 -- the first step is from 2 ^ 24
-loop-holds : tie.Need-loop-holds Inv-loop μ-loop
-loop-holds c =
-    let e = c .closer .ensures in
-    next (c .before .args .w) 16777216 (c .closer .result) (c .before .pre .0) (omega arith) e (omega arith)
-
-mul-loop : tie.Need-mul-loop Inv-loop μ-loop
-mul-loop c =
-    let h = square (c .loop .s) 16777216 (c .loop .inv .few) in
-    record { fits = omega arith }
+first : (w t : ℕ) → 0 < w → w < 281474976710656 → t ≡ (16777216 + w / 16777216) / 2 → Above w t
+first w t p h e = next w 16777216 t p (omega arith) e (omega arith)
 
 closer-requires-2 : tie.Need-closer-requires-2 Inv-loop μ-loop
-closer-requires-2 c κs = ?
+closer-requires-2 c κs =
+    let h = c .before .pre in
+    let a = first (c .before .args .w) (c .closer .result) (h .0) (h .1) (c .closer .ensures) in
+    (a .some, (a .few, h .1))
+
+loop-holds : tie.Need-loop-holds Inv-loop μ-loop
+loop-holds c =
+    let h = c .before .before .pre in
+    (first (c .before .before .args .w) (c .before .closer .result) (h .0) (h .1) (c .before .closer .ensures), c .closer2 .ensures)
+
+module _ (c : lts.In-loop (closer-reads.Asked, closer-reads.Learnt) reads.Pre reads.Post Inv-loop μ-loop) where
+  again : Above (c .before .before .before .before .args .w) (c .before .loop .t)
+  again =
+      let l = c .before .loop in
+      let a = l .inv .0 .few in
+      next (c .before .before .before .before .args .w) (l .s) (l .t) (c .before .before .before .before .pre .0) (l .inv .0 .some) (l .inv .1) (omega arith)
+
+closer-requires-3 : tie.Need-closer-requires-3 Inv-loop μ-loop
+closer-requires-3 c κs = let a = again c in (a .some, (a .few, c .before .before .before .before .pre .1))
 
 loop-less : tie.Need-loop-less Inv-loop μ-loop
-loop-less c = ?
+loop-less c = omega arith
 
 loop-again : tie.Need-loop-again Inv-loop μ-loop
-loop-again c = ?
+loop-again c = (again (c .before), c .closer3 .ensures)
 
 returns : tie.Need-returns Inv-loop μ-loop
-returns c = ?
+returns c =
+    let w = c .before .before .before .before .args .w in
+    let l = c .before .loop in
+    let e = l .inv .1 in
+    let h : l .s ≤ (l .s + w / l .s) / 2 = omega arith in
+    record { below = closer-done w (l .s) h; above = l .inv .0 .above }
 
 pub floor-root-spec : {M : Type 1} → statement M
 floor-root-spec =
@@ -60,9 +76,9 @@ floor-root-spec =
     Inv-loop
     μ-loop
     closer-requires
-    loop-holds
-    mul-loop
     closer-requires-2
+    loop-holds
+    closer-requires-3
     loop-less
     loop-again
     returns)
