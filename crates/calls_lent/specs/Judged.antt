@@ -8,10 +8,9 @@ use Rattle.rules.specs.declared.Event.{Event}
 use Rattle.rules.specs.declared.EventForm.{EventForm}
 use Rattle.rules.specs.declared.Answer.the-variants as answer
 use Rattle.rules.specs.declared.Answered.{Answered}
-use Rattle.rules.specs.Events.{codeOf, formEvent}
+use Rattle.rules.specs.Events.{formEvent}
 use Rattle.rules.specs.Refusals.{formRefusal, insertRefusal}
-use Rattle.rules.specs.Hub.{placeIn}
-use Rattle.rules.specs.Step.{updatedAt, updatedOf}
+use Rattle.rules.specs.Step.{updatedOf}
 use Rattle.rules.specs.Calls.{formPlace, updateFormBy, insertFormBy, insertedAt}
 
 -- a refused call, with the hub as it was
@@ -35,16 +34,9 @@ module _ (h : Hub) (f : EventForm) {place number : ℕ} (found : place ≡ formP
   unfolding updateForm
   update-refused some = rw (← found, ← judged) (update-stops number h f some)
 
-  pub update-done :
-      {code at : ℕ} {e : Event} {g : Hub} →
-      number ≡ 0 →
-      e ≡ formEvent f →
-      code ≡ codeOf e →
-      at ≡ placeIn h (e .pad) code →
-      g ≡ updatedAt true h e at →
-      doneWith g ≡ updateForm h f
-  unfolding updateForm updatedOf
-  update-done none is coded stands written = rw (← found, ← judged, none, written, stands, coded, is)
+  pub update-done : {e : Event} {g : Hub} → number ≡ 0 → e ≡ formEvent f → g ≡ updatedOf true h e → doneWith g ≡ updateForm h f
+  unfolding updateForm
+  update-done none is written = rw (← found, ← judged, none, written, is)
 
 -- ---- insert_event
 

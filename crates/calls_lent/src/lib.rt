@@ -23,7 +23,7 @@ const MALFORMED: u8 = 8;
 
 // ---- update: 8, 6, 9, 11, 12
 
-// A form that is well made: refused, or done. Events of kinds 6 to 8 carry no code, and the place of theirs is looked up as the definition has it.
+// A form that is well made: refused, or done. The place of the form's code is the event's too, but for kinds 6 to 8, which carry no code.
 fn update_form(
     head: Head,
     codes: &[u32; 208],
@@ -46,17 +46,19 @@ fn update_form(
         return Answer::Refused(refusal);
     }
     let e = events::form_event(f);
-    let at = pad::place_of(codes, e.pad, events::code_of(e));
-    cells::update(
+    cells::settle(
+        codes,
         touched,
         moved,
         values,
         times,
         marks,
-        at,
         true,
         e,
         head.counter,
+        f.pad,
+        f.code,
+        place,
     );
     Answer::Done
 }
@@ -113,7 +115,7 @@ fn insert_form(
         };
     }
     let e = events::form_event(f);
-    h.waiting = cells::push(values, times, queuebytes, queuecodes, h.head, h.waiting, e);
+    h.waiting = queueing::push(values, times, queuebytes, queuecodes, h.head, h.waiting, e);
     AnsweredHead {
         head: h,
         answer: Answer::Done,

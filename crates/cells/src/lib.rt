@@ -1,17 +1,17 @@
-// What a step sees and writes of the records in their columns: one call for all that it sees, one for all that an event writes, one for an event that waits. The
-// loop above is lent the arrays; a read or a store of its own for each record would cost its check far more.
+// What a step sees and writes of the records in their columns: one call for all that it sees, one for the state after an event. The loop above is lent the
+// arrays; a read or a store of its own for each record would cost its check far more.
 ghost use mathlib.Core.Path.{_≡_};
 ghost use Prim.Native.Nat.{_≤_};
 ghost use lib.ListN.{getD};
 ghost use Rattle.rules.specs.Names.{nowhere};
+ghost use Rattle.rules.specs.Places.{placeOf};
+ghost use Rattle.rules.specs.Events.{codeOf};
 ghost use Rattle.rules.specs.Hub.{pastElement, pastButton, pastAxis};
+ghost use Rattle.pad.specs.Found.{Placed};
 ghost use Rattle.gather.specs.Sight.{viewBy};
 ghost use Rattle.columns.specs.Columns.{elementsOf, buttonsOf, axesOf};
-ghost use Rattle.cells.specs.Written.{Written, Updated};
-ghost use Rattle.cells.specs.Pushed.{Pushed};
+ghost use Rattle.cells.specs.Settled.{Settled};
 use columns::Marks;
-use columns::QueueBytes;
-use columns::QueueCodes;
 use columns::Times;
 use columns::Values;
 use gather::Sight;
@@ -49,83 +49,48 @@ pub fn view_in(values: &Values, times: &Times, marks: &Marks, s: Sight) -> View
     )
 }
 
-// ---- the state after an event
-
-// The button and the axis record of a place.
-fn write(
-    values: &mut Values,
-    times: &mut Times,
-    marks: &mut Marks,
-    k: usize,
-    on: bool,
-    e: Event,
-    known: bool,
-    counter: u64,
-)
-    requires { ⌜ k ≤ nowhere ⌝ }
-    ensures { λ _. ⌜ Written (now (values .entry)) (now (times .entry)) (now (marks .entry)) k on e known counter
-        (now (values .exit)) (now (times .exit)) (now (marks .exit)) ⌝ }
-{
-    let b = columns::button_at(values, times, marks, k);
-    columns::put_button(
-        values,
-        times,
-        marks,
-        k,
-        turn::button_written(on, e, known, b, counter),
-    );
-    let a = columns::axis_at(values, times, k);
-    columns::put_axis(values, times, k, turn::axis_written(on, e, a, counter));
-}
-
-// The same, and the marks that they stand: `on` says whether updates are on.
-pub fn update(
+// The state after a kept event: with updates on, the record that the event writes, and the mark that it stands. `last` is where the code of the event before
+// stands, which is most often the event's place too.
+pub fn settle(
+    codes: &[u32; 208],
     touched: &mut [bool; 208],
     moved: &mut [bool; 208],
     values: &mut Values,
     times: &mut Times,
     marks: &mut Marks,
-    k: usize,
     on: bool,
     e: Event,
     counter: u64,
+    lastpad: u8,
+    lastcode: u32,
+    last: usize,
 )
-    requires { ⌜ k ≤ nowhere ⌝ }
-    ensures { λ _. ⌜ Updated (now (touched .entry)) (now (moved .entry)) (now (values .entry)) (now (times .entry)) (now (marks .entry)) k on e counter
+    requires { ⌜ Placed (now codes) lastpad lastcode last ⌝ }
+    ensures { λ _. ⌜ Settled (now (touched .entry)) (now (moved .entry)) (now (values .entry)) (now (times .entry)) (now (marks .entry))
+        (placeOf (now (codes .entry)) (e .pad) (codeOf e)) on e counter
         (now (touched .exit)) (now (moved .exit)) (now (values .exit)) (now (times .exit)) (now (marks .exit)) ⌝ }
 {
-    let known = pad::bool_at(touched, k);
-    let sticks = pad::bool_at(moved, k);
-    write(values, times, marks, k, on, e, known, counter);
-    let pressed = turn::known_after(known, on, state::writes_button(e));
-    let placed = turn::known_after(sticks, on, state::writes_axis(e));
-    pad::mark(touched, k, pressed);
-    pad::mark(moved, k, placed);
-}
-
-// ---- the queue
-
-// One event more waits; the answer is how many do.
-pub fn push(
-    values: &mut Values,
-    times: &mut Times,
-    queuebytes: &mut QueueBytes,
-    queuecodes: &mut QueueCodes,
-    head: u8,
-    waiting: u8,
-    e: Event,
-) -> u8
-    ensures { λ r. ⌜ Pushed (now (values .entry)) (now (times .entry)) (now (queuebytes .entry)) (now (queuecodes .entry)) head waiting e
-        (now (values .exit)) (now (times .exit)) (now (queuebytes .exit)) (now (queuecodes .exit)) r ⌝ }
-{
-    let free = turn::free(head, waiting);
-    columns::put_slot(
-        values,
-        times,
-        queuebytes,
-        queuecodes,
-        free,
-        events::slot_of(e),
-    );
-    turn::longer(waiting)
+    if !on {
+        return;
+    }
+    let k = gather::place_again(codes, e.pad, events::code_of(e), lastpad, lastcode, last);
+    if state::writes_button(e) {
+        let known = pad::bool_at(touched, k);
+        let b = columns::button_at(values, times, marks, k);
+        columns::put_button(
+            values,
+            times,
+            marks,
+            k,
+            state::button_after(e, known, b, counter),
+        );
+        pad::mark(touched, k, true);
+        return;
+    }
+    if !state::writes_axis(e) {
+        return;
+    }
+    let a = columns::axis_at(values, times, k);
+    columns::put_axis(values, times, k, state::axis_after(e, a, counter));
+    pad::mark(moved, k, true);
 }

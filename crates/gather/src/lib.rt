@@ -168,7 +168,7 @@ pub fn converts_now<'a>(
 }
 
 // The place of a code where one was looked up before: most often it is the same.
-fn place_again(
+pub fn place_again(
     codes: &[u32; 208],
     p: u8,
     code: u32,

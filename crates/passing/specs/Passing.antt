@@ -1,10 +1,10 @@
--- What the filters make of an event, where those that no filter touches are passed on unseen: the answer is the law book's at the hub's own view; and the
--- marks of a record, which are the same where it neither joins nor leaves.
-use Prim.Native.Nat.{ℕ, zero, suc, _+_, _*_, _≤_, _<_}
-use mathlib.Core.Path.{_≡_, refl, sym, _∙_, ap, subst}
-use mathlib.Core.Bool.{Bool, true, false, cond, false≢true}
-use mathlib.Core.List.{List, [], _∷_}
-use lib.ListN.{length, getD, set}
+-- What a turn's gates go by: the marks of a record are the same where it neither joins nor leaves, and an event at which no filter looks passes as it is and
+-- leaves the flags as they were; what the filters see is the hub's own view.
+use Prim.Native.Nat.{ℕ, _*_, _<_}
+use mathlib.Core.Path.{_≡_, refl, sym, _∙_, ap}
+use mathlib.Core.Bool.{Bool, true, false, false≢true}
+use mathlib.Core.List.{List, []}
+use lib.ListN.{getD, set}
 use lib.Seq.{set-getD}
 use lib.Dec.{eqb}
 use native.Mathlib.Omega.{arith}
@@ -19,20 +19,16 @@ use Rattle.rules.specs.declared.EventType.{EventType}
 use Rattle.rules.specs.declared.EventType.the-variants.{Pressed, Released, Repeated, Changed, Axis, Connected, Disconnected, Dropped}
 use Rattle.rules.specs.declared.Flags.{Flags}
 use Rattle.rules.specs.declared.View.{View}
-use Rattle.rules.specs.declared.Filtered.{Filtered}
 use Rattle.rules.specs.Names.{placesPerPad, flagsPerPad, partnerOf}
 use Rattle.rules.specs.Places.{placeOf, clearedOf}
 use Rattle.rules.specs.Sheets.{elementAxis}
 use Rattle.rules.specs.Forms.{kindConnected, kindDisconnected}
 use Rattle.rules.specs.Events.{nameOf, codeOf}
 use Rattle.rules.specs.Filters.{filteredOf, unfiltered, dpadOf, jitteredOf, deadzonedOf, joined, dpadType, jitterType, deadzoneType}
-use Rattle.rules.specs.Hub.{viewAt, viewOf, flagPlace, pastElement, pastButton, pastAxis}
-use Rattle.rules.specs.Step.{connectedAfter, renamedAfter, joinRun, flagsSet}
+use Rattle.rules.specs.Hub.{viewAt, viewOf, hatPlace, partnerPlace, convertsNow, pressedAt, valueAt, flagPlace}
+use Rattle.rules.specs.Step.{connectedAfter, renamedAfter, joinRun, flagsSet, filteredIn}
 use Rattle.gather.specs.declared.Sight.{Sight}
-use Rattle.gather.specs.Sight.{SightIs, sightAt, viewBy, view-is}
-use Rattle.filters.specs.declared.Sent.{Sent}
-use Rattle.filters.specs.Behind.{SentIs, sentOf, behindOf, behind-is, sent-event, sent-flags, sent-count}
-use Rattle.passing.specs.declared.Passed.{Passed}
+use Rattle.gather.specs.Sight.{SightIs, sightAt}
 
 -- ---- the marks of a taken record
 
@@ -106,16 +102,15 @@ seenHub codes kinds names renames renamed converts reconverts touched moved elem
       waiting = 0;
     }
 
--- what passes, r, is what the law book's filters make of the event: the event, how many wait behind it and which, and the flags
-pub record PassedIs (on : Bool) (v : View) (e : Event) (flags : List Bool) (r : Passed) (flags' : List Bool) : Type 0 where
-  pub event : r .sent .event ≡ filteredOf on v e .gives .event
-  pub count : r .sent .count ≡ filteredOf on v e .gives .count
-  pub small : r .sent .count ≤ 4
-  pub waits :
-      (past next : Event) (x : ℕ) →
-      x ≤ r .sent .count →
-      behindOf next (r .view) e (r .sent) x ≡ getD (next ∷ filteredOf on v e .gives .queued) x past
-  pub flags-are : flags' ≡ flagsSet flags (e .pad) (nameOf e) (filteredOf on v e .flags)
+-- a hub, blank but for what its view is made of: the filters make the same of an event
+abbrev pub seenOf : Hub → Hub
+seenOf m =
+    seenHub (m .codes) (m .kinds) (m .names) (m .renames) (m .renamed) (m .converts) (m .reconverts) (m .touched) (m .moved) (m .elements) (m .buttons)
+    (m .axes) (m .flags)
+
+pub seen-same : (m : Hub) (e : Event) → filteredOf (m .filters) (viewOf (seenOf m) e) e ≡ filteredIn m e
+unfolding filteredIn viewOf viewAt hatPlace partnerPlace convertsNow pressedAt valueAt
+seen-same m e = refl
 
 -- an event that no filter looks at passes as it is
 passes-type :
@@ -141,45 +136,19 @@ untouched true v e h = passes-type (e .event) (e .pad) (e .time) v h
 untouched false v e h = off-same v e
 
 -- the flags that a view has are the hub's: setting them changes nothing
-same-flags : (h : Hub) (e : Event) → flagsSet (h .flags) (e .pad) (nameOf e) (viewOf h e .flags) ≡ h .flags
+pub same-flags : (h : Hub) (e : Event) → flagsSet (h .flags) (e .pad) (nameOf e) (viewOf h e .flags) ≡ h .flags
 unfolding flagsSet viewOf viewAt
 same-flags h e =
     let own = flagPlace (e .pad) (nameOf e) in
     let other = flagPlace (e .pad) (partnerOf (nameOf e)) in
     ap (λ (l : List Bool). set l other (getD (h .flags) other false)) (set-getD (h .flags) own false) ∙ set-getD (h .flags) other false
 
-view-dead : (h : Hub) (e : Event) → viewOf h e .dead ≡ eqb (getD (h .kinds) (placeOf (h .codes) (e .pad) (codeOf e)) 0) elementAxis
+pub view-dead : (h : Hub) (e : Event) → viewOf h e .dead ≡ eqb (getD (h .kinds) (placeOf (h .codes) (e .pad) (codeOf e)) 0) elementAxis
 unfolding viewOf viewAt
 view-dead h e = refl
 
--- the event alone, with no view
-abbrev alone : Event → View → Flags → Passed
-alone e w fs = record { sent = record { event = e; count = 0; hats = 0; clearing = e; flags = fs }; view = w }
-
-pub passes-unseen :
-    (on : Bool) (h : Hub) (e : Event) (w : View) (fs : Flags) →
-    concernsOf e (eqb (getD (h .kinds) (placeOf (h .codes) (e .pad) (codeOf e)) 0) elementAxis) ≡ false →
-    PassedIs on (viewOf h e) e (h .flags) (alone e w fs) (h .flags)
-unfolding behindOf
-passes-unseen on h e w fs off =
-    let is : filteredOf on (viewOf h e) e ≡ unfiltered (viewOf h e) e = untouched on (viewOf h e) e (rw (view-dead h e) off) in
-    record {
-      event = rw is;
-      count = rw is;
-      small = omega arith;
-      waits = waits;
-      flags-are = sym (ap (λ (f : Filtered). flagsSet (h .flags) (e .pad) (nameOf e) (f .flags)) is ∙ same-flags h e);
-    }
-  where
-    waits :
-        (past next : Event) (x : ℕ) →
-        x ≤ 0 →
-        behindOf next w e (alone e w fs .sent) x ≡ getD (next ∷ filteredOf on (viewOf h e) e .gives .queued) x past
-    waits past next zero l = refl
-    waits past next (suc x) l = absurd (omega arith)
-
--- what was seen is the hub's view, and what the filters sent of it is passed
-view-named :
+-- what was seen is the hub's view
+pub view-named :
     (m : Hub) (e : Event) {name code : ℕ} →
     name ≡ nameOf e →
     code ≡ codeOf e →
@@ -190,11 +159,11 @@ view-named m e {name} {code} en ec =
     ∙ ap (λ (c : ℕ). viewAt m (e .pad) (nameOf e) (placeOf (m .codes) (e .pad) c)) ec
 
 -- what is seen of a hub for an event
-abbrev SeenIn : Hub → Event → ℕ → ℕ → Sight → Type 0
+abbrev pub SeenIn : Hub → Event → ℕ → ℕ → Sight → Type 0
 SeenIn m e name code s =
     SightIs (m .codes) (m .kinds) (m .names) (m .renames) (m .renamed) (m .converts) (m .reconverts) (m .touched) (m .moved) (m .flags) (e .pad) name code s
 
-flags-at :
+pub flags-at :
     (m : Hub) (e : Event) (f : Flags) {name code : ℕ} {s : Sight} {flagged both : List Bool} →
     name ≡ nameOf e →
     SeenIn m e name code s →
@@ -203,36 +172,3 @@ flags-at :
     both ≡ flagsSet (m .flags) (e .pad) (nameOf e) f
 unfolding flagsSet sightAt
 flags-at m e f en seen e1 e2 = rw (e2, e1, seen .is, en)
-
-sent-passes :
-    (on : Bool) (v : View) (e : Event) (flags : List Bool) {f : Sent} {flags' : List Bool} →
-    SentIs on v e f →
-    flags' ≡ flagsSet flags (e .pad) (nameOf e) (f .flags) →
-    PassedIs on v e flags (record { sent = f; view = v }) flags'
-sent-passes on v e flags {f} sent ef =
-    let count : f .count ≡ filteredOf on v e .gives .count = ap (λ (s : Sent). s .count) (sent .is) ∙ sent-count on v e in
-    record {
-      event = ap (λ (s : Sent). s .event) (sent .is) ∙ sent-event on v e;
-      count = count;
-      small = sent .small;
-      waits = λ past next x l. ap (λ (s : Sent). behindOf next v e s x) (sent .is) ∙ behind-is past on next v e x (omega (arith, count));
-      flags-are = ef ∙ ap (flagsSet flags (e .pad) (nameOf e)) (ap (λ (s : Sent). s .flags) (sent .is) ∙ sent-flags on v e);
-    }
-
-pub passes-seen :
-    (on : Bool) (m : Hub) (e : Event) {name code : ℕ} {s : Sight} {v : View} {f : Sent} {flagged both : List Bool} →
-    name ≡ nameOf e →
-    code ≡ codeOf e →
-    SeenIn m e name code s →
-    v
-    ≡ viewBy s (getD (m .elements) (s .own .place) pastElement) (getD (m .buttons) (s .own .place) pastButton) (getD (m .axes) (s .own .place) pastAxis)
-    (getD (m .buttons) (s .positive .place) pastButton) (getD (m .buttons) (s .negative .place) pastButton)
-    (getD (m .buttons) (s .partner .place) pastButton) (getD (m .axes) (s .partner .place) pastAxis) →
-    SentIs on v e f →
-    flagged ≡ set (m .flags) (s .flag) (f .flags .own) →
-    both ≡ set flagged (s .other) (f .flags .partner) →
-    PassedIs on (viewOf m e) e (m .flags) (record { sent = f; view = v }) both
-passes-seen on m e {name} {code} {s} {v} {f} {both = both} en ec seen ev sent e1 e2 =
-    subst (λ (w : View). PassedIs on w e (m .flags) (record { sent = f; view = v }) both)
-    (ev ∙ view-is m (e .pad) name code s seen ∙ view-named m e en ec)
-    (sent-passes on v e (m .flags) sent (flags-at m e (f .flags) en seen e1 e2))

@@ -1,35 +1,26 @@
-// A turn's gates: what is taken, the marks of a record that joins or leaves, and the filters, behind one test each, so that only what is asked for is read.
-// Each answer is the law book's, as if all had been gathered. The gates stand inside functions that are lent the arrays, and not in the pump's loop, where a
-// branch that falls through would cost a join of all that is lent.
+// A turn's gates: the marks of a record that joins or leaves, and what a taken event's passing changes, behind one test each, so that only what is asked for is
+// read. Each answer is the law book's, as if all had been gathered. The gates stand inside functions that are lent the arrays, and not in the pump's loop, where
+// a branch that falls through would cost a join of all that is lent.
 ghost use mathlib.Core.Path.{_≡_};
-ghost use mathlib.Core.Bool.{true};
-ghost use Prim.Native.Nat.{_≤_, _%_};
 ghost use lib.ListN.{getD};
 ghost use lib.Dec.{eqb};
-ghost use Rattle.numbers.specs.Constants.{withinOf};
-ghost use Rattle.rules.specs.Names.{nowhere, queueRoom};
 ghost use Rattle.rules.specs.Sheets.{elementAxis};
-ghost use Rattle.rules.specs.Places.{placeOf};
 ghost use Rattle.rules.specs.Events.{codeOf};
-ghost use Rattle.rules.specs.Hub.{viewOf, pastSlot, pastElement, pastButton};
+ghost use Rattle.rules.specs.Hub.{viewOf};
 ghost use Rattle.pad.specs.Found.{Placed};
-ghost use Rattle.turn.specs.Turn.{takenBy};
-ghost use Rattle.columns.specs.Columns.{elementsOf, buttonsOf, axesOf, slotsOf};
-ghost use Rattle.passing.specs.Passing.{concernsOf, seenHub, PassedIs, MarkedIs};
+ghost use Rattle.columns.specs.Columns.{elementsOf, buttonsOf, axesOf};
+ghost use Rattle.queueing.specs.Queued.{Pushed};
+ghost use Rattle.taking.specs.Taking.{givesOf};
+ghost use Rattle.passing.specs.Passing.{concernsOf, seenHub, MarkedIs};
+ghost use Rattle.passing.specs.Served.{ownFirst, ServedIs};
 use columns::Marks;
 use columns::QueueBytes;
 use columns::QueueCodes;
 use columns::Times;
 use columns::Values;
-use filters::Sent;
-use gather::Found;
-use rules::Dispatched;
 use rules::Event;
 use rules::EventType;
-use rules::Flags;
-use rules::Partner;
-use rules::RawRecord;
-use rules::View;
+use taking::Taken;
 
 const ELEMENT_AXIS: u8 = 2;
 
@@ -38,45 +29,6 @@ const KIND_CONNECTED: u8 = 4;
 const PLACES_PER_PAD: usize = 52;
 
 const FLAGS_PER_PAD: usize = 6;
-
-// ---- what is taken
-
-// The queue's front, else what the record gives: `found` is of the record's code.
-pub fn take(
-    values: &Values,
-    times: &Times,
-    marks: &Marks,
-    queuebytes: &QueueBytes,
-    queuecodes: &QueueCodes,
-    head: u8,
-    waiting: u8,
-    raw: RawRecord,
-    found: Found,
-    pressed: f32,
-    released: f32,
-    reversed: bool,
-) -> Dispatched
-    requires { ⌜ (withinOf (raw .value) ≡ true) × (found .place ≤ nowhere) ⌝ }
-    ensures { λ r. ⌜ r ≡ takenBy waiting
-        (getD (slotsOf (now (values .entry)) (now (times .entry)) (now (queuebytes .entry)) (now (queuecodes .entry))) (head % queueRoom) pastSlot)
-        raw found (getD (elementsOf (now (values .entry)) (now (marks .entry))) (found .place) pastElement)
-        (getD (buttonsOf (now (values .entry)) (now (times .entry)) (now (marks .entry))) (found .place) pastButton) pressed released reversed ⌝ }
-{
-    if 0 < waiting {
-        let front = turn::front(head);
-        let e = events::event_of(columns::slot_at(values, times, queuebytes, queuecodes, front));
-        return Dispatched {
-            event: e,
-            follows: false,
-            next: e,
-        };
-    }
-    let k = found.place;
-    let element = columns::element_at(values, marks, k);
-    let b = columns::button_at(values, times, marks, k);
-    let down = state::read_pressed(found.touched, b);
-    dispatch::dispatch(raw, found.name, element, down, pressed, released, reversed)
-}
 
 // ---- the marks of a taken record
 
@@ -106,19 +58,16 @@ pub fn mark_joins(
     pad::clear_flags(flags, FLAGS_PER_PAD * q, runs);
 }
 
-// ---- the filters
+// ---- a taken event served: the filters, the flags and the queue in one
 
-// Whether a filter looks at an event: a stick's always, a button's value where its element is an axis.
-pub fn concerns<'a>(codes: &'a [u32; 208], kinds: &'a [u8; 208], e: Event) -> bool
-    ensures { λ r. ⌜ r ≡ concernsOf e (eqb (getD (now (kinds .entry)) (placeOf (now (codes .entry)) (e .pad) (codeOf e)) 0) elementAxis) ⌝ }
+// Whether a filter looks at an event, whose element stands at a place: a stick's always, a button's value where the element is an axis.
+fn concerns(kinds: &[u8; 208], e: Event, place: usize) -> bool
+    ensures { λ r. ⌜ r ≡ concernsOf e (eqb (getD (now (kinds .entry)) place 0) elementAxis) ⌝ }
 {
     let t = e.event;
     match t {
         EventType::Axis(_, _, _) => true,
-        EventType::Changed(_, c, _) => {
-            let k = pad::place_of(codes, e.pad, c);
-            pad::kind_at(kinds, k) == ELEMENT_AXIS
-        }
+        EventType::Changed(_, _, _) => pad::kind_at(kinds, place) == ELEMENT_AXIS,
         EventType::Pressed(_, _) => false,
         EventType::Released(_, _) => false,
         EventType::Repeated(_, _) => false,
@@ -128,37 +77,41 @@ pub fn concerns<'a>(codes: &'a [u32; 208], kinds: &'a [u8; 208], e: Event) -> bo
     }
 }
 
-// What passes and what waits behind it, with what was seen to tell that.
-pub struct Passed {
-    pub sent: Sent,
-    pub view: View,
-}
-
-// The view of an event at which no filter looks.
-fn unseen() -> View {
-    View {
-        converts: false,
-        positive: false,
-        negative: false,
-        stored: false,
-        stick: 0.0,
-        dead: false,
-        threshold: 0.0,
-        own: 0.0,
-        partner: Partner {
-            stands: false,
-            code: 0,
-            value: 0.0,
-        },
-        flags: Flags {
-            own: false,
-            partner: false,
-        },
+// What a record queues itself, where it does; how many wait then.
+fn push_next(
+    values: &mut Values,
+    times: &mut Times,
+    queuebytes: &mut QueueBytes,
+    queuecodes: &mut QueueCodes,
+    t: Taken,
+) -> u8
+    ensures { λ r. ⌜ Pushed (now (values .entry)) (now (times .entry)) (now (queuebytes .entry)) (now (queuecodes .entry)) (t .head) (t .waiting)
+        (ownFirst (t .follows) (t .next))
+        (now (values .exit)) (now (times .exit)) (now (queuebytes .exit)) (now (queuecodes .exit)) r ⌝ }
+{
+    if t.follows {
+        return queueing::push(
+            values,
+            times,
+            queuebytes,
+            queuecodes,
+            t.head,
+            t.waiting,
+            t.next,
+        );
     }
+    t.waiting
 }
 
-// The event through the filters, and the two flags after; `last` is where the record's code was found, which is most often the event's place too.
-pub fn pass<'a>(
+// The event that is handed on, or Dropped, and how many wait behind it.
+pub struct Served {
+    pub event: Event,
+    pub waiting: u8,
+}
+
+// What its record queues is pushed, the event passes the filters where one looks at it, the flags are set, and what the filters queue is pushed, each event made
+// only then.
+pub fn serve<'a>(
     codes: &'a [u32; 208],
     kinds: &'a [u8; 208],
     names: &'a [u8; 208],
@@ -168,60 +121,67 @@ pub fn pass<'a>(
     reconverts: &'a [bool; 4],
     touched: &'a [bool; 208],
     moved: &'a [bool; 208],
-    values: &'a Values,
-    times: &'a Times,
+    values: &mut Values,
+    times: &mut Times,
     marks: &'a Marks,
+    queuebytes: &mut QueueBytes,
+    queuecodes: &mut QueueCodes,
     flags: &mut [bool; 24],
     on: bool,
-    e: Event,
-    lastpad: u8,
-    lastcode: u32,
-    last: usize,
-) -> Passed
-    requires { ⌜ Placed (now codes) lastpad lastcode last ⌝ }
-    ensures { λ r. ⌜ PassedIs on (viewOf (seenHub (now (codes .entry)) (now (kinds .entry)) (now (names .entry)) (now (renames .entry))
+    t: Taken,
+) -> Served
+    requires { ⌜ Placed (now codes) (t .event .pad) (codeOf (t .event)) (t .place) ⌝ }
+    ensures { λ r. ⌜ ServedIs on (viewOf (seenHub (now (codes .entry)) (now (kinds .entry)) (now (names .entry)) (now (renames .entry))
         (now (renamed .entry)) (now (converts .entry)) (now (reconverts .entry)) (now (touched .entry)) (now (moved .entry))
         (elementsOf (now (values .entry)) (now (marks .entry))) (buttonsOf (now (values .entry)) (now (times .entry)) (now (marks .entry)))
-        (axesOf (now (values .entry)) (now (times .entry))) (now (flags .entry))) e) e (now (flags .entry)) r (now (flags .exit)) ⌝ }
+        (axesOf (now (values .entry)) (now (times .entry))) (now (flags .entry))) (t .event)) (givesOf t) (now (flags .entry)) (t .head) (t .waiting)
+        (now (values .entry)) (now (times .entry)) (now (queuebytes .entry)) (now (queuecodes .entry)) r (now (flags .exit))
+        (now (values .exit)) (now (times .exit)) (now (queuebytes .exit)) (now (queuecodes .exit)) ⌝ }
 {
-    if concerns(codes, kinds, e) {
-        let s = gather::sighted_again(
-            codes,
-            kinds,
-            names,
-            renames,
-            renamed,
-            converts,
-            reconverts,
-            touched,
-            moved,
-            flags,
-            e.pad,
-            events::name_of(e),
-            events::code_of(e),
-            lastpad,
-            lastcode,
-            last,
-        );
-        let v = cells::view_in(values, times, marks, s);
-        let f = filters::through(on, v, e);
-        let m = f.flags;
-        pad::mark_flag(flags, s.flag, m.own);
-        pad::mark_flag(flags, s.other, m.partner);
-        return Passed { sent: f, view: v };
-    }
-    let v = unseen();
-    Passed {
-        sent: Sent {
+    let more = push_next(values, times, queuebytes, queuecodes, t);
+    let e = t.event;
+    let place = t.place;
+    if !concerns(kinds, e, place) {
+        return Served {
             event: e,
-            count: 0,
-            hats: 0,
-            clearing: e,
-            flags: Flags {
-                own: false,
-                partner: false,
-            },
-        },
-        view: v,
+            waiting: more,
+        };
+    }
+    let code = events::code_of(e);
+    let s = gather::sighted_again(
+        codes,
+        kinds,
+        names,
+        renames,
+        renamed,
+        converts,
+        reconverts,
+        touched,
+        moved,
+        flags,
+        e.pad,
+        events::name_of(e),
+        code,
+        e.pad,
+        code,
+        place,
+    );
+    let v = cells::view_in(values, times, marks, s);
+    let f = filters::through(on, v, e);
+    let m = f.flags;
+    pad::mark_flag(flags, s.flag, m.own);
+    pad::mark_flag(flags, s.other, m.partner);
+    let count = choices::wide(f.count);
+    let mut all = more;
+    let mut x: usize = 0;
+    while x < count {
+        x = x + 1;
+        let u = filters::behind(e, v, e, f, x);
+        all = queueing::push(values, times, queuebytes, queuecodes, t.head, all, u);
+    }
+    let z = f.event;
+    Served {
+        event: z,
+        waiting: all,
     }
 }

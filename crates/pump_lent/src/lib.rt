@@ -1,9 +1,10 @@
 // Document 01's pump on a hub that is lent: the head goes in and comes back by value, each array is lent by itself and changed where it stands, so that no call
-// copies the hub. The loop and its decisions are those of the pump that takes the hub by value, and so is the equation of its contract, at the hub that head
-// and arrays stand for.
+// copies the hub. A turn of the loop takes an event, makes a record's marks, and serves the event, each in one call that is lent the arrays; a kept event is
+// settled in the state and written. The contract is the equation of the pump that takes the hub by value, at the hub that head and arrays stand for.
 ghost use mathlib.Core.Path.{_≡_};
 ghost use Rattle.rules.specs.Pump.{pumpOf};
 ghost use Rattle.hub.specs.Lent.{listed, columns, hubOf, pumped};
+ghost use Rattle.pump_lent.specs.Stepped.{steppedHead};
 use columns::Marks;
 use columns::QueueBytes;
 use columns::QueueCodes;
@@ -14,6 +15,29 @@ use hub::PumpedHead;
 use rules::PumpAnswer;
 
 const EVENT_SIZE: usize = 22;
+
+// No pad has this number.
+const NO_PAD: u8 = 4;
+
+// The head after some steps: its settings stay.
+fn stepped(
+    head: Head,
+    connected: [bool; 4],
+    renamed: [bool; 4],
+    flags: [bool; 24],
+    front: u8,
+    waiting: u8,
+) -> Head
+    ensures { λ r. ⌜ r ≡ steppedHead head connected renamed flags front waiting ⌝ }
+{
+    let mut h = head;
+    h.connected = connected;
+    h.renamed = renamed;
+    h.flags = flags;
+    h.head = front;
+    h.waiting = waiting;
+    h
+}
 
 pub fn pump<'s>(
     head: Head,
@@ -42,7 +66,7 @@ pub fn pump<'s>(
         (now (queuebytes .entry)) (now (queuecodes .entry))))
         (now (batch .entry)) place (now (out .entry)) allowance ⌝ }
 {
-    let mut h = head;
+    let h = head;
     let refused = refusals::pump_refusal(batch.len(), out.len(), place);
     if 0 < refused {
         return PumpedHead {
@@ -50,13 +74,22 @@ pub fn pump<'s>(
             answer: PumpAnswer::Refused(refused, place, 0, 0),
         };
     }
+    // what steps change of the head
+    let mut connected = h.connected;
+    let mut renamed = h.renamed;
+    let mut flags = h.flags;
+    let mut front = h.head;
+    let mut waiting = h.waiting;
     let mut at = place;
     let mut events: usize = 0;
     let mut steps: usize = 0;
     let mut left = allowance as usize;
+    // the place that was looked up last
+    let mut lastpad: u8 = NO_PAD;
+    let mut lastcode: u32 = 0;
+    let mut last = pad::place_of(codes, lastpad, lastcode);
     loop {
         let ev = loop {
-            let waiting = h.waiting;
             let why = turn::stop(
                 waiting,
                 batch.len() - at,
@@ -65,73 +98,66 @@ pub fn pump<'s>(
             );
             if 0 < why {
                 return PumpedHead {
-                    head: h,
+                    head: stepped(h, connected, renamed, flags, front, waiting),
                     answer: turn::stop_answer(why, at, events, steps),
                 };
             }
-            // gather: the record, unless something waits, and what its code meets
-            let l = wire::look(batch, at, waiting);
-            let raw = l.raw;
-            let found = gather::find(
+            // gather and decide: what is taken
+            let t = taking::take(
                 codes,
                 kinds,
                 names,
                 renames,
-                &h.renamed,
+                &renamed,
                 touched,
-                raw.pad,
-                raw.code,
-            );
-            let number = turn::refusal(waiting, l, h.pads, found.kind);
-            if 0 < number {
-                return PumpedHead {
-                    head: h,
-                    answer: PumpAnswer::Refused(number, at, events, steps),
-                };
-            }
-            // decide: what is taken
-            let d = passing::take(
                 values,
                 times,
                 marks,
                 queuebytes,
                 queuecodes,
-                h.head,
+                batch,
+                at,
                 waiting,
-                raw,
-                found,
+                front,
+                h.pads,
                 h.pressed,
                 h.released,
                 h.reversed,
+                lastpad,
+                lastcode,
+                last,
             );
+            if 0 < t.number {
+                return PumpedHead {
+                    head: stepped(h, connected, renamed, flags, front, waiting),
+                    answer: PumpAnswer::Refused(t.number, at, events, steps),
+                };
+            }
             // commit: the marks of a taken record, the ring, the place
-            let mut connected = h.connected;
-            let mut renamed = h.renamed;
-            let mut flags = h.flags;
             passing::mark_joins(
                 &mut connected,
                 &mut renamed,
                 touched,
                 moved,
                 &mut flags,
-                raw.pad,
-                raw.kind,
+                t.pad,
+                t.kind,
             );
-            h.connected = connected;
-            h.renamed = renamed;
-            h.head = turn::head_after(h.head, waiting);
-            h.waiting = turn::fewer(waiting);
-            at = turn::place_after(waiting, at);
+            at = t.at;
+            front = t.head;
             left = left - 1;
             steps = steps + 1;
+            let e = t.event;
+            lastpad = e.pad;
+            lastcode = events::code_of(e);
+            last = t.place;
             // what the filters make of the event; commit: flags and queue
-            let e = d.event;
-            let r = passing::pass(
+            let r = passing::serve(
                 codes,
                 kinds,
                 names,
                 renames,
-                &h.renamed,
+                &renamed,
                 &h.converts,
                 &h.reconverts,
                 touched,
@@ -139,49 +165,32 @@ pub fn pump<'s>(
                 values,
                 times,
                 marks,
+                queuebytes,
+                queuecodes,
                 &mut flags,
                 h.filters,
-                e,
-                raw.pad,
-                raw.code,
-                found.place,
+                t,
             );
-            h.flags = flags;
-            let f = r.sent;
-            let v = r.view;
-            let next = d.next;
-            let mut x = turn::first_pushed(d.follows);
-            let end = choices::wide(f.count) + 1;
-            while x < end {
-                let u = filters::behind(next, v, e, f, x);
-                h.waiting = cells::push(
-                    values,
-                    times,
-                    queuebytes,
-                    queuecodes,
-                    h.head,
-                    h.waiting,
-                    u,
-                );
-                x = x + 1;
-            }
-            let z = f.event;
+            waiting = r.waiting;
+            let z = r.event;
             if events::kept(h.filters, z) {
                 break z;
             }
         };
         // commit: the state, and the event's bytes
-        let k = pad::place_of(codes, ev.pad, events::code_of(ev));
-        cells::update(
+        cells::settle(
+            codes,
             touched,
             moved,
             values,
             times,
             marks,
-            k,
             h.updates,
             ev,
             h.counter,
+            lastpad,
+            lastcode,
+            last,
         );
         wire::write_event(&mut out[EVENT_SIZE * events..], ev);
         events = events + 1;

@@ -43,7 +43,7 @@ all-none a b c d e h =
     let three = none-first c (first d e) (two .1) in
     (one .0, none-first d e (three .1) .0)
 
-taken : (l : Looked) (pads kind : ℕ) → recordRefusal l pads kind ≤ 0 → Taken l
+pub taken : (l : Looked) (pads kind : ℕ) → recordRefusal l pads kind ≤ 0 → Taken l
 unfolding recordRefusal fieldsRefusal
 taken l pads kind h =
     let n = all-none (unlessFits (l .fits) 8) (unlessFits (standsOf pads (l .raw .pad)) 6) (elementRefusal (l .raw .kind) kind) (unlessFits (withinOf (l .raw .value)) 11) (unlessFits (timeFits (l .raw .time)) 12) h in
@@ -72,7 +72,7 @@ both-true : (a b : Bool) → (a && b) ≡ true → a ≡ true
 both-true true b e = refl
 both-true false b e = e
 
-whole : (s : List ℕ) (at : ℕ) → lookedBy (readRecord s at) .fits ≡ true → recordSize ≤ length s - at
+pub whole : (s : List ℕ) (at : ℕ) → lookedBy (readRecord s at) .fits ≡ true → recordSize ≤ length s - at
 unfolding readRecord recordFits
 whole s at e = leb-true recordSize (length s - at) (both-true _ _ (sym (fits-by (recordFits s at) (recordFields s at)) ∙ e))
 

@@ -2,7 +2,7 @@
 use borrow.Author.Needs.{needs}
 use denote.Ref.{now}
 use Rattle.hub.specs.Lent.{listed}
-use Rattle.cells.specs.Pushed.{pushed-hub}
+use Rattle.queueing.specs.Queued.{pushed-hub}
 use Rattle.calls_lent.specs.Judged.{insert-refused, insert-done}
 use Rattle.calls_lent.proofs.insert_form.Statement.{statement}
 use Rattle.calls_lent.proofs.insert_form.Tie as tie

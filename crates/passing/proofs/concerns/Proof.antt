@@ -1,23 +1,16 @@
 -- `passing::concerns` meets its contract: by the event's kind.
 use borrow.Author.Needs.{needs}
-use Rattle.rules.specs.Events.{codeOf}
 use Rattle.passing.proofs.concerns.Statement.{statement}
 use Rattle.passing.proofs.concerns.Tie as tie
 
 enum-told : tie.Need-enum-told
 enum-told c = search needs
 
-enum-known-t : tie.Need-enum-known-t
-enum-known-t c = search needs
-
-place-of-requires : tie.Need-place-of-requires
-place-of-requires c κs = search needs
+enum-told-2 : tie.Need-enum-told-2
+enum-told-2 c = search needs
 
 kind-at-requires : tie.Need-kind-at-requires
 kind-at-requires c κs = search needs
-
-enum-told-2 : tie.Need-enum-told-2
-enum-told-2 c = search needs
 
 enum-told-3 : tie.Need-enum-told-3
 enum-told-3 c = search needs
@@ -34,12 +27,14 @@ enum-told-6 c = search needs
 enum-told-7 : tie.Need-enum-told-7
 enum-told-7 c = search needs
 
+enum-told-8 : tie.Need-enum-told-8
+enum-told-8 c = search needs
+
 returns : tie.Need-returns
 returns c = search needs
 
 returns-2 : tie.Need-returns-2
-unfolding codeOf
-returns-2 c = rw (c .kind-at .ensures, c .before .place-of .ensures .is, c .before .before .before .t .given .1)
+returns-2 c = rw (c .kind-at .ensures, c .before .enum-told2 .given .1)
 
 returns-3 : tie.Need-returns-3
 returns-3 c = search needs
@@ -64,15 +59,14 @@ concerns-spec =
     tie.close
     (tie.spec
     enum-told
-    enum-known-t
-    place-of-requires
-    kind-at-requires
     enum-told-2
+    kind-at-requires
     enum-told-3
     enum-told-4
     enum-told-5
     enum-told-6
     enum-told-7
+    enum-told-8
     returns
     returns-2
     returns-3

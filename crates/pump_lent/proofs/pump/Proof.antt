@@ -1,33 +1,26 @@
--- `pump_lent::pump` meets its contract, as `pump::pump` does: at the head of each loop the run that is left from where the pump stands is the whole run, at the
--- hub that head and arrays stand for; a turn of the inner loop is one step of the law book, by the laws of `steps`; and what a call writes into the arrays is
--- one field of the hub (`pushed-hub`, `updated-hub`). The proofs go by named landmarks (`Proof/Landmarks.antt`). The measure is what is left of the allowance.
+-- `pump_lent::pump` meets its contract: at the head of each loop the run that is left from where the pump stands is the whole run, at the hub that head and
+-- arrays stand for; a turn of the inner loop is one step of the law book (`Proof/Turns.antt`), by the laws of `steps`; and a kept event that is settled makes
+-- the hub the law book's `updatedOf`. The proofs go by named landmarks (`Proof/Landmarks.antt`). The measure is what is left of the allowance.
 mod Loops
 mod Landmarks
 mod Turns
 mod Plain
-use borrow.Author.Needs.{needs}
 use Prim.Native.Nat.{_+_, _≤_, _<_}
-use mathlib.Core.Path.{refl, sym, _∙_, ap}
+use mathlib.Core.Path.{refl, sym, _∙_}
 use lib.ListN.{length, length-drop, length-take}
 use denote.Ref.{now}
 use native.Mathlib.Omega.{arith}
-use Rattle.rules.specs.declared.Hub.{Hub}
-use Rattle.gather.specs.Sight.{found-placed}
-use Rattle.turn.specs.Turn.{first-small, part}
+use Rattle.rules.specs.declared.PumpAnswer.the-variants.{Refused}
 use Rattle.steps.specs.Runs.{accepted, run-stops, run-refuses, pump-refuses}
-use Rattle.steps.specs.Records.{taken-within}
-use Rattle.steps.specs.Pushes.{queuedHub}
 use Rattle.steps.specs.Turns.{step-skips, step-keeps}
 use Rattle.steps.specs.Parts.{put-is, put-length}
-use Rattle.cells.specs.Written.{updated-hub, updated-of}
-use Rattle.cells.specs.Pushed.{pushed-hub}
-use Rattle.passing.specs.Gated.{queueOf, queue-at, push-more}
+use Rattle.cells.specs.Settled.{settled-hub}
 use Rattle.pump_lent.proofs.pump.Statement.{statement}
 use Rattle.pump_lent.proofs.pump.Tie as tie
-use Rattle.pump_lent.proofs.pump.Proof.Loops.{Inv-loop3, μ-loop3, Inv-loop2, μ-loop2, Inv-loop, μ-loop, At}
+use Rattle.pump_lent.proofs.pump.Proof.Loops.{Inv-loop2, μ-loop2, Inv-loop, μ-loop, At}
 use Rattle.pump_lent.proofs.pump.Proof.Landmarks as mark
-use Rattle.pump_lent.proofs.pump.Proof.Turns.{turns}
-use Rattle.pump_lent.proofs.pump.Proof.Plain.{pump-refusal-requires, sub-stop, mul-stop, sub-stop-2, stop-requires, stop-answer-requires, same-length, look-requires, find-requires, refusal-requires, same-length-2, mark-joins-requires, head-after-requires, fewer-requires, first-pushed-requires, wide-requires, add-end, behind-requires, add-x, loop3-less, kept-requires, code-of-requires, place-of-requires, push-requires, update-requires}
+use Rattle.pump_lent.proofs.pump.Proof.Turns.{turns, hub-served, head-served}
+use Rattle.pump_lent.proofs.pump.Proof.Plain.{pump-refusal-requires, place-of-requires, sub-stop, mul-stop, sub-stop-2, stop-requires, stepped-requires, stop-answer-requires, same-length, stepped-requires-2, mark-joins-requires, code-of-requires, kept-requires}
 
 returns : At tie.Need-returns
 returns c =
@@ -37,9 +30,10 @@ returns c =
 
 loop-holds : At tie.Need-loop-holds
 loop-holds c =
-    let s = c .before .before .before .before in
+    let n = c .before .before .before .before in
+    let s = n .before .before .before .before in
     let a = s .args in
-    let g = accepted (length (now (a .batch))) (length (now (a .out))) (a .place) (c .before .pump-refusal .ensures) (c .if1 .left) in (
+    let g = accepted (length (now (a .batch))) (length (now (a .out))) (a .place) (n .before .pump-refusal .ensures) (n .if1 .left) in (
       record {
         at-small = g .place-small;
         batch-small = g .batch-small;
@@ -49,6 +43,7 @@ loop-holds c =
         same = refl;
       },
       refl,
+      c .place-of .ensures,
     )
 
 loop2-holds : At tie.Need-loop2-holds
@@ -63,104 +58,65 @@ loop2-holds c =
         same = refl;
       },
       omega arith,
+      c .loop .inv .2,
     )
 
 -- a stop
 returns-2 : At tie.Need-returns-2
 returns-2 c =
-    let t = c .before in
+    let t = c .before .before in
     let i = t .before .before in
     let l = i .loop2 in
     let o = mark.outer i .loop in
-    run-stops (mark.hub-in i) (mark.batch-in (mark.outer i)) (l .at) (o .out) (o .events) (l .steps) (l .left) (t .before .stop .ensures) (t .if2 .taken)
+    mark.headed (c .stop-answer .result) (mark.listed-in (mark.start (mark.outer i))) (mark.columns-in i) (o .out) (c .before .stepped .ensures)
+    ∙ run-stops (mark.hub-in i) (mark.batch-in (mark.outer i)) (l .at) (o .out) (o .events) (l .steps) (l .left) (t .before .stop .ensures) (t .if2 .taken)
     (c .stop-answer .ensures)
     ∙ mark.whole-run i
+
+take-requires : At tie.Need-take-requires
+take-requires c κs = mark.inner (c .before .before .before .before .before .before .before) .loop2 .inv .2
+
+same-length-2 : At tie.Need-same-length-2
+same-length-2 c = let o = mark.outer (mark.inner-of (c .before .before .before)) .loop .inv in omega (arith, o .1)
 
 -- a refused record
 returns-3 : At tie.Need-returns-3
 returns-3 c =
-    let g = mark.going (mark.looked (mark.found (c .before))) in
+    let t = c .before .before .before in
+    let g = mark.going t in
     let i = mark.inner g in
     let l = i .loop2 in
     let o = mark.outer i .loop in
-    run-refuses (mark.hub-in i) (mark.batch-in (mark.outer i)) (l .at) (o .out) (o .events) (l .steps) (l .left) (g .before .stop .ensures) (g .if2 .left)
-    (mark.number-is (c .before)) (c .if3 .taken)
+    mark.headed (Refused (t .take .result .number) (l .at) (o .events) (l .steps)) (mark.listed-in (mark.start (mark.outer i))) (mark.columns-in i) (o .out)
+    (c .stepped2 .ensures)
+    ∙ run-refuses (mark.hub-in i) (mark.batch-in (mark.outer i)) (l .at) (o .out) (o .events) (l .steps) (l .left) (g .before .stop .ensures) (g .if2 .left)
+    (mark.taken-is t .number) (c .before .if3 .taken)
     ∙ mark.whole-run i
 
-take-requires : At tie.Need-take-requires
-take-requires c κs =
-    let y = mark.accepted c in
-    let n = mark.judged y in
-    let f = mark.found n in
-    let i = mark.inner-of n in
-    let l = i .loop2 in (
-      taken-within (l .h .waiting) (mark.batch-in (mark.outer i)) (l .at) (l .h .pads) (f .find .result .kind) (mark.looked f .look .ensures)
-          (n .refusal .ensures) (y .if3 .left),
-      f .find .ensures .small,
-    )
-
-place-after-requires : At tie.Need-place-after-requires
-place-after-requires c κs = let i = mark.inner-of (mark.judged (mark.accepted-of (c .before .before))) .loop2 .inv .0 in omega arith
-
 sub-left : At tie.Need-sub-left
-sub-left c = let r = mark.room-in (mark.going (mark.looked (mark.found (mark.judged (mark.accepted-of (mark.joined c)))))) in omega arith
+sub-left c = let r = mark.room-in (mark.going (mark.taken (mark.accepted c))) in omega arith
 
 add-steps : At tie.Need-add-steps
-add-steps c = let i = mark.inner-of (mark.judged (mark.accepted-of (mark.joined c))) .loop2 .inv .0 in omega arith
+add-steps c = let i = mark.inner-of (mark.taken (mark.accepted c)) .loop2 .inv .0 in omega arith
 
-pass-requires : At tie.Need-pass-requires
-pass-requires c κs = found-placed (mark.found (mark.judged (mark.accepted-of (mark.joined (c .before .before .before .before .before .before .before .before .before .before .before)))) .find .ensures)
-
-loop3-holds : At tie.Need-loop3-holds
-loop3-holds c =
-    let p = c .before .before .before .before .before in
-    let n = c .wide .ensures .0 in (
-      rw (c .before .first-pushed .ensures) (first-small (mark.taken (mark.joined (mark.placed p)) .take .result .follows) (c .wide .result)),
-      omega (arith, n, p .pass .ensures .small),
-      refl,
-    )
-
--- one event more is pushed
-loop3-again : At tie.Need-loop3-again
-loop3-again c =
-    let told = c .before .before .before .before .before in
-    let m = told .before .before in
-    let j = mark.joined (mark.placed (mark.passed m)) in
-    let o = mark.outer (mark.inner-of (mark.judged (mark.accepted-of j))) in
-    let d = mark.taken j .take .result in
-    let r = mark.passed m .pass .result in
-    let i = m .loop3 .inv in
-    let x = m .loop3 .x in
-    let end = m .before .wide .result + 1 in
-    let es = queueOf (d .next) (r .view) (d .event) (r .sent) in
-    let more : x < end = omega (arith, told .before .loop3-test) in
-    let few : end ≤ length es = i .1 in
-    let is = told .behind .ensures ∙ queue-at (d .next) (r .view) (d .event) (r .sent) x (omega (arith, i .1)) in (
-      omega arith,
-      i .1,
-      ap (λ (u : Hub). queuedHub u (part es (x + 1) end))
-          (pushed-hub (m .loop3 .h) (mark.listed-in (mark.start o)) (mark.touched-by j) (mark.moved-by j) (o .loop .marks) (c .push .ensures))
-          ∙ sym (push-more (mark.hub-pushing m) es x end more few is) ∙ i .2,
-    )
+serve-requires : At tie.Need-serve-requires
+serve-requires c κs = mark.given (mark.accepted (mark.joined (c .before .before .before .before .before .before .before .before .before .before .before .before))) .placed
 
 loop2-less : At tie.Need-loop2-less
-loop2-less c =
-    let g = mark.going (mark.looked (mark.found (mark.judged (mark.accepted-of (mark.joined (mark.placed-of (c .before .before .before))))))) in
-    let r = mark.room-in g in omega arith
+loop2-less c = let r = mark.room-in (mark.going (mark.taken (mark.accepted-of (c .before .before .before)))) in omega arith
 
 -- a dropped event: a step that writes nothing
 loop2-again : At tie.Need-loop2-again
 loop2-again c =
-    let t = c .before .before .before in
-    let p = mark.placed-of t in
-    let y = mark.accepted-of (mark.joined p) in
-    let g = mark.going (mark.looked (mark.found (mark.judged y))) in
-    let l = mark.inner g .loop2 in
-    let o = mark.outer (mark.inner g) .loop in
+    let p = c .before .before .before in
+    let y = mark.accepted-of p in
+    let n = mark.inner-at p in
+    let l = n .loop2 in
+    let o = mark.outer n .loop in
     let i = l .inv .0 in
-    let r = mark.room-in g in (
+    let r = mark.room-in (mark.going (mark.taken y)) in (
       record {
-        at-small = mark.place-fits p;
+        at-small = mark.given y .within (i .at-small);
         batch-small = i .batch-small;
         out-small = i .out-small;
         room = i .room;
@@ -168,12 +124,16 @@ loop2-again c =
         same =
             sym
             (mark.goes-on y
-            (step-skips (mark.hub-in (mark.inner g)) (mark.batch-in (mark.outer (mark.inner g))) (l .at) (o .out) (o .events) (l .steps)
-            (mark.looked (mark.found (mark.judged y)) .look .ensures) (turns t) (p .place-after .ensures) (sym (c .before .kept .ensures) ∙ c .if4 .left)))
+            (step-skips (mark.hub-in n) (mark.batch-in (mark.outer n)) (l .at) (o .out) (o .events) (l .steps) refl (turns p) (mark.given y .place)
+            (sym (c .before .kept .ensures) ∙ c .if4 .left)))
             ∙ i .same;
       },
       omega (arith, l .inv .1),
+      mark.placed (mark.coded p),
     )
+
+settle-requires : At tie.Need-settle-requires
+settle-requires c κs = mark.placed (mark.coded (mark.served (c .before .before .before .before .before)))
 
 -- ---- a kept event is written: there is room
 
@@ -201,26 +161,25 @@ loop-less c =
     let r = mark.room-in g in
     let i = mark.inner g .loop2 .inv in omega arith
 
--- a kept event: a step, with the state updated and the event's bytes written
+-- a kept event: a step, with the state settled and the event's bytes written
 loop-again : At tie.Need-loop-again
 loop-again c =
     let w = c .before .before .before .before in
     let k = mark.kept w in
-    let t = mark.pushed k in
-    let m = mark.pushing t in
-    let p = mark.placed-of t in
-    let y = mark.accepted-of (mark.joined p) in
-    let g = mark.going-of k in
-    let l = mark.inner g .loop2 in
-    let o = mark.outer (mark.inner g) in
+    let p = mark.served k in
+    let y = mark.accepted-of p in
+    let n = mark.inner-at p in
+    let l = n .loop2 in
+    let o = mark.outer n in
     let i = l .inv .0 in
-    let r = mark.room-in g in
-    let u = mark.hub-pushing m in
-    let z = mark.passed m .pass .result .sent .event in
+    let r = mark.room-in (mark.going-of k) in
+    let u = hub-served p in
+    let z = p .serve .result .event in
+    let v = p .serve .last .1 .1 .1 .1 .1 .1 .1 .1 .1 in
     let wrote = c .before .before .write-event .ensures in
     let long = put-length (o .loop .out) (o .loop .events) (r .room) z wrote in (
       record {
-        at-small = mark.place-fits p;
+        at-small = mark.given y .within (i .at-small);
         batch-small = i .batch-small;
         out-small = rw long (i .out-small);
         room = rw long (omega (arith, r .room));
@@ -228,65 +187,50 @@ loop-again c =
         same =
             sym
             (mark.goes-on y
-            (step-keeps (mark.hub-in (mark.inner g)) (mark.batch-in o) (l .at) (o .loop .out) (o .loop .events) (l .steps)
-            (mark.looked (mark.found (mark.judged y)) .look .ensures) (turns t) (p .place-after .ensures) (sym (k .before .kept .ensures) ∙ k .if4 .taken)
-            (updated-hub (m .loop3 .h) (mark.listed-in (mark.start o)) (m .loop3 .queuebytes) (m .loop3 .queuecodes) (w .update .ensures)
-            ∙ updated-of (u .updates) u z (mark.place w .before .code-of .ensures) (mark.place w .place-of .ensures .is))
+            (step-keeps (mark.hub-in n) (mark.batch-in o) (l .at) (o .loop .out) (o .loop .events) (l .steps) refl (turns p) (mark.given y .place)
+            (sym (k .before .kept .ensures) ∙ k .if4 .taken)
+            (settled-hub (head-served p) (mark.listed-in (mark.start o)) (v .1 .1 .1 .0) (v .1 .1 .1 .1 .0) (u .updates) z (w .settle .ensures))
             (put-is (o .loop .out) (o .loop .events) (r .room) z wrote)))
             ∙ i .same ∙ o .loop .inv .0 .same;
       },
       long ∙ o .loop .inv .1,
+      mark.placed (mark.coded p),
     )
 
 pub pump-spec : {M : Type 1} → statement M
 pump-spec =
     tie.close
     (tie.spec
-    Inv-loop3
-    μ-loop3
     Inv-loop2
     μ-loop2
     Inv-loop
     μ-loop
     pump-refusal-requires
     returns
+    place-of-requires
     loop-holds
     loop2-holds
     sub-stop
     mul-stop
     sub-stop-2
     stop-requires
+    stepped-requires
     stop-answer-requires
     same-length
     returns-2
-    look-requires
-    find-requires
-    refusal-requires
+    take-requires
+    stepped-requires-2
     same-length-2
     returns-3
-    take-requires
     mark-joins-requires
-    head-after-requires
-    fewer-requires
-    place-after-requires
     sub-left
     add-steps
-    pass-requires
-    first-pushed-requires
-    wide-requires
-    add-end
-    loop3-holds
-    behind-requires
-    push-requires
-    add-x
-    loop3-less
-    loop3-again
+    code-of-requires
+    serve-requires
     kept-requires
     loop2-less
     loop2-again
-    code-of-requires
-    place-of-requires
-    update-requires
+    settle-requires
     mul-write-event
     sub-write-event
     part-write-event-start

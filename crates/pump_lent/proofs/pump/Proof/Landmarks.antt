@@ -1,98 +1,82 @@
 -- The landmarks of the pump's code, which the proofs go by: each is told from the one behind it, so that a statement added to the code moves the one line that
--- steps over it. Then what holds at them: the hub where each loop stands, and the facts that more than one proof goes by.
+-- steps over it. Then what holds at them: the hub where each loop stands and where an event is served, and the facts that more than one proof goes by.
 use Prim.Native.Nat.{ℕ, _+_, _-_, _*_, _≤_, _<_}
-use mathlib.Core.Path.{_≡_, _∙_}
+use mathlib.Core.Path.{_≡_, _∙_, ap}
 use mathlib.Core.Bool.{Bool}
 use mathlib.Core.List.{List}
 use lib.ListN.{length}
 use denote.Ref.{now}
 use native.Mathlib.Omega.{arith}
 use Rattle.rules.specs.declared.Hub.{Hub}
+use Rattle.rules.specs.declared.PumpAnswer.{PumpAnswer}
 use Rattle.rules.specs.Names.{bufferLimit}
 use Rattle.rules.specs.Forms.{eventSize}
-use Rattle.rules.specs.Step.{lookedOf, stepRefusal}
 use Rattle.rules.specs.Pump.{Progress, Run, stepped, pumpOf}
+use Rattle.pad.specs.Found.{Placed}
 use Rattle.steps.specs.Runs.{rest, standing, roomy, run-goes, pump-runs}
-use Rattle.steps.specs.Records.{refusal-is, place-small}
-use Rattle.hub.specs.Lent.{Listed, listed, columns, hubOf}
+use Rattle.hub.specs.declared.Head.{Head}
+use Rattle.hub.specs.Lent.{Listed, Columns, listed, columns, hubOf, pumped}
+use Rattle.taking.specs.Taking.{TakenIs, GivenIs, taken-in}
+use Rattle.pump_lent.specs.Stepped.{steppedHead}
 use Rattle.pump_lent.proofs.pump.Tie as tie
-use Rattle.pump_lent.proofs.pump.Proof.Loops.{At}
+use Rattle.pump_lent.proofs.pump.Proof.Loops.{At, hubAt}
 
 -- ---- from the outer loop back
 
 -- the call is not refused
 abbrev pub admitted : At tie.At-loop → At tie.Else1
-admitted c = c .before
+admitted c = c .before .before .before .before .before
 
 abbrev pub start : At tie.At-loop → At tie.Start
 start c = admitted c .before .before .before .before
 
--- ---- from the record's refusal back
+-- ---- from what is taken back
 
 abbrev pub outer : At tie.At-loop2 → At tie.At-loop
 outer c = c .before
 
--- no stop is answered
-abbrev pub going : At tie.After-look → At tie.Else2
-going c = c .before
-
 abbrev pub inner : At tie.Else2 → At tie.At-loop2
 inner c = c .before .before
 
-abbrev pub looked : At tie.After-find → At tie.After-look
-looked c = c .before .before .before .before .before
+-- no stop is answered
+abbrev pub going : At tie.After-take → At tie.Else2
+going c = c .before .before .before .before .before .before .before .before
 
-abbrev pub found : At tie.After-refusal → At tie.After-find
-found c = c .before
+abbrev pub inner-of : At tie.After-take → At tie.At-loop2
+inner-of c = inner (going c)
 
-abbrev pub inner-of : At tie.After-refusal → At tie.At-loop2
-inner-of c = inner (going (looked (found c)))
+-- ---- from the served event back to what is taken and not refused
 
--- ---- from the push loop back to a record that is not refused
+abbrev pub taken : At tie.Else3 → At tie.After-take
+taken c = c .before .before
 
-abbrev pub judged : At tie.Else3 → At tie.After-refusal
-judged c = c .before
+abbrev pub accepted : At tie.After-mark-joins → At tie.Else3
+accepted c = c .before .before .before .before .before .before
 
-abbrev pub accepted : At tie.After-take-arg5 → At tie.Else3
-accepted c = c .before .before .before .before .before
+abbrev pub joined : At tie.After-code-of → At tie.After-mark-joins
+joined c = c .before .before
 
-abbrev pub taken : At tie.After-mark-joins → At tie.After-take
-taken c = c .before .before .before .before .before .before .before .before .before
+abbrev pub coded : At tie.After-serve → At tie.After-code-of
+coded c = c .before .before .before .before .before .before .before .before .before .before .before .before .before
 
-abbrev pub accepted-of : At tie.After-mark-joins → At tie.Else3
-accepted-of c = accepted (taken c .before)
+abbrev pub accepted-of : At tie.After-serve → At tie.Else3
+accepted-of c = accepted (joined (coded c))
 
-abbrev pub placed : At tie.After-pass → At tie.After-place-after
-placed c = c .before .before .before .before .before .before .before .before .before .before .before .before
+abbrev pub inner-at : At tie.After-serve → At tie.At-loop2
+inner-at c = inner-of (taken (accepted-of c))
 
-abbrev pub joined : At tie.After-place-after → At tie.After-mark-joins
-joined c = c .before .before .before
+-- ---- from the settled state back to the kept event
 
-abbrev pub passed : At tie.At-loop3 → At tie.After-pass
-passed c = c .before .before .before .before .before .before
+abbrev pub kept : At tie.After-settle → At tie.Then4
+kept c = c .before .before .before .before .before .before
 
-abbrev pub pushing : At tie.After-loop3 → At tie.At-loop3
-pushing c = c .before
-
--- the place after the step, of a turn whose events are pushed
-abbrev pub placed-of : At tie.After-loop3 → At tie.After-place-after
-placed-of c = placed (passed (pushing c))
-
--- ---- from the written state back to the kept event
-
-abbrev pub place : At tie.After-update → At tie.After-place-of
-place c = c .before .before .before .before .before .before
-
-abbrev pub kept : At tie.After-update → At tie.Then4
-kept c = place c .before .before
-
-abbrev pub pushed : At tie.Then4 → At tie.After-loop3
-pushed c = c .before .before .before
+abbrev pub served : At tie.Then4 → At tie.After-serve
+served c = c .before .before .before
 
 abbrev pub going-of : At tie.Then4 → At tie.Else2
-going-of c = going (looked (found (judged (accepted-of (joined (placed-of (pushed c)))))))
+going-of c = going (taken (accepted-of (served c)))
 
--- ---- the hub, where the call begins and where the loops stand
+-- ---- the hub, where the call begins, where the loops stand, and where an event is served
 
 abbrev pub listed-in : At tie.Start → Listed
 listed-in c = let a = c .args in listed (now (a .codes)) (now (a .kinds)) (now (a .names)) (now (a .renames))
@@ -103,11 +87,14 @@ hub-given c =
     hubOf (a .head) (listed-in c)
     (columns (now (a .touched)) (now (a .moved)) (now (a .values)) (now (a .times)) (now (a .marks)) (now (a .queuebytes)) (now (a .queuecodes)))
 
+abbrev pub columns-in : At tie.At-loop2 → Columns
+columns-in c = let l = c .loop2 in columns (l .touched) (l .moved) (l .values) (l .times) (outer c .loop .marks) (l .queuebytes) (l .queuecodes)
+
 abbrev pub hub-in : At tie.At-loop2 → Hub
 hub-in c =
     let l = c .loop2 in
-    hubOf (l .h) (listed-in (start (outer c)))
-    (columns (l .touched) (l .moved) (l .values) (l .times) (outer c .loop .marks) (l .queuebytes) (l .queuecodes))
+    let s = start (outer c) in
+    hubAt (s .args .head) (l .connected) (l .renamed) (l .flags) (l .front) (l .waiting) (listed-in s) (columns-in c)
 
 -- the marks of which records stand, once a record that joins has cleared its pad's
 abbrev pub touched-by : At tie.After-mark-joins → List Bool
@@ -116,12 +103,12 @@ touched-by c = c .mark-joins .last .1 .1 .0
 abbrev pub moved-by : At tie.After-mark-joins → List Bool
 moved-by c = c .mark-joins .last .1 .1 .1 .0
 
-abbrev pub hub-pushing : At tie.At-loop3 → Hub
-hub-pushing c =
-    let m = c .loop3 in
-    let j = joined (placed (passed c)) in
-    let o = outer (inner-of (judged (accepted-of j))) in
-    hubOf (m .h) (listed-in (start o)) (columns (touched-by j) (moved-by j) (m .values) (m .times) (o .loop .marks) (m .queuebytes) (m .queuecodes))
+-- the head once a record's marks are made
+abbrev pub head-marked : At tie.After-mark-joins → Head
+head-marked c =
+    let m = c .mark-joins .last in
+    let t = taken (accepted c) in
+    steppedHead (start (outer (inner-of t)) .args .head) (m .0) (m .1 .0) (m .1 .1 .1 .1 .0) (t .take .result .head) (t .take .result .waiting)
 
 abbrev pub batch-in : At tie.At-loop → List ℕ
 batch-in c = now (start c .args .batch)
@@ -144,7 +131,7 @@ room-in c =
     let o = outer (inner c) .loop in
     let batch-left = length (batch-in (outer (inner c))) - l .at in
     let out-left = length (o .out) - eventSize * o .events in
-    let g = roomy (l .h .waiting) batch-left out-left (l .left) (c .before .stop .ensures) (c .if2 .left) in
+    let g = roomy (l .waiting) batch-left out-left (l .left) (c .before .stop .ensures) (c .if2 .left) in
     let i = l .inv .0 in
     record { room = omega arith; small = i .out-small; step-left = g .step-left }
 
@@ -163,39 +150,44 @@ whole-run c =
     c .loop2 .inv .0 .same ∙ outer c .loop .inv .0 .same
     ∙ pump-runs (hub-given s) (now (a .batch)) (a .place) (now (a .out)) (a .allowance) (n .before .pump-refusal .ensures) (n .if1 .left)
 
--- the refusal that was worked out is the step's
-pub number-is :
-    (c : At tie.After-refusal) →
-    let l = inner-of c in c .refusal .result ≡ stepRefusal (hub-in l) (lookedOf (hub-in l .waiting) (batch-in (outer l)) (l .loop2 .at))
-number-is c =
-    let l = inner-of c in
-    let f = found c in
-    refusal-is (hub-in l) (batch-in (outer l)) (l .loop2 .at) (looked f .look .ensures) (f .find .ensures .is) (c .refusal .ensures)
+-- what a call leaves that stops or refuses, with the head put together
+pub headed :
+    (a : PumpAnswer) (s : Listed) (t : Columns) (out : List ℕ) {r d : Head} →
+    r ≡ d →
+    pumped (record { head = r; answer = a }) s t out ≡ pumped (record { head = d; answer = a }) s t out
+headed a s t out e = ap (λ (x : Head). pumped (record { head = x; answer = a }) s t out) e
 
--- a record that is not refused makes a step more
+-- what is taken
+pub taken-is : (c : At tie.After-take) → let i = inner-of c in TakenIs (hub-in i) (batch-in (outer i)) (i .loop2 .at) (c .take .result)
+taken-is c = let i = inner-of c in taken-in (hub-in i) (batch-in (outer i)) (i .loop2 .at) (c .take .ensures)
+
+pub given :
+    (c : At tie.Else3) → let i = inner-of (taken c) in GivenIs (hub-in i) (batch-in (outer i)) (i .loop2 .at) (taken c .take .result)
+given c = taken-is (taken c) .given (c .if3 .left)
+
+-- what is taken, and not refused, makes a step more
 pub goes-on :
     (c : At tie.Else3) {p : Progress} →
-    let l = inner-of (judged c) in
-    let b = batch-in (outer l) in p ≡ stepped b (standing-in l) → run-in l ≡ rest (l .loop2 .left - 1) b p
+    let i = inner-of (taken c) in
+    let b = batch-in (outer i) in p ≡ stepped b (standing-in i) → run-in i ≡ rest (i .loop2 .left - 1) b p
 goes-on c e =
-    let g = going (looked (found (judged c))) in
+    let g = going (taken c) in
     let i = inner g in
     let l = i .loop2 in
     let o = outer i .loop in
     run-goes (hub-in i) (batch-in (outer i)) (l .at) (o .out) (o .events) (l .steps) (l .left) (g .before .stop .ensures) (g .if2 .left)
-    (number-is (judged c)) (c .if3 .left) e
+    (taken-is (taken c) .number) (c .if3 .left) e
 
--- the place after a step lies in the batch
-pub place-fits :
-    (c : At tie.After-place-after) → c .place-after .result ≤ length (batch-in (outer (inner-of (judged (accepted-of (joined c))))))
-place-fits c =
-    let y = accepted-of (joined c) in
-    let n = judged y in
-    let f = found n in
-    let l = inner-of n .loop2 in
-    place-small (l .h .waiting) (batch-in (outer (inner-of n))) (l .at) (l .h .pads) (f .find .result .kind) (looked f .look .ensures)
-    (n .refusal .ensures) (y .if3 .left) (c .place-after .ensures) (l .inv .0 .at-small)
+same-placed : {codes : List ℕ} {p c m k : ℕ} → m ≡ c → Placed codes p c k → Placed codes p m k
+same-placed e is = rw e is
+
+-- the place that is looked up last is its code's
+pub placed :
+    (c : At tie.After-code-of) →
+    let t = taken (accepted (joined c)) in
+    let r = t .take .result in Placed (listed-in (start (outer (inner-of t))) .codes) (r .event .pad) (c .code-of .result) (r .place)
+placed c = same-placed (c .code-of .ensures) (given (accepted (joined c)) .placed)
 
 -- there was room where a kept event is written
-pub room-of : (c : At tie.After-update) → Room (going-of (kept c))
+pub room-of : (c : At tie.After-settle) → Room (going-of (kept c))
 room-of c = room-in (going-of (kept c))

@@ -1,27 +1,43 @@
--- A turn of the inner loop, once its events are pushed, is the law book's: by the law of a turn behind gates, fed with what each call ensures.
-use Prim.Native.Nat.{_+_}
-use mathlib.Core.Path.{_∙_}
-use Rattle.steps.specs.Pushes.{push-done}
+-- A turn of the inner loop, once its event is served, is the law book's: by the law of a turn behind gates, fed with what each call ensures.
+use mathlib.Core.Bool.{Bool}
+use mathlib.Core.List.{List}
+use Rattle.rules.specs.declared.Hub.{Hub}
+use Rattle.rules.specs.Step.{lookedOf}
 use Rattle.steps.specs.Turns.{Turned}
-use Rattle.passing.specs.Gated.{queueOf, pushed-are, turn-gated}
+use Rattle.hub.specs.declared.Head.{Head}
+use Rattle.hub.specs.Lent.{columns, hubOf}
+use Rattle.taking.specs.Taking.{givesOf}
+use Rattle.passing.specs.Served.{servedHead, served-hub, served-event}
+use Rattle.passing.specs.Turning.{turn-served}
 use Rattle.pump_lent.proofs.pump.Tie as tie
 use Rattle.pump_lent.proofs.pump.Proof.Loops.{At}
-use Rattle.pump_lent.proofs.pump.Proof.Landmarks.{looked, found, inner-of, judged, accepted-of, taken, joined, placed, passed, pushing, hub-in, hub-pushing}
+use Rattle.pump_lent.proofs.pump.Proof.Landmarks.{start, outer, inner-at, taken, accepted, accepted-of, joined, coded, batch-in, listed-in, hub-in, touched-by, moved-by, head-marked, given}
+
+-- the flags, once the event has passed
+abbrev flags-by : At tie.After-serve → List Bool
+flags-by c = c .serve .last .1 .1 .1 .1 .1 .1 .1 .1 .1 .1 .1 .1 .1 .1 .0
+
+abbrev pub head-served : At tie.After-serve → Head
+head-served c = servedHead (head-marked (joined (coded c))) (flags-by c) (c .serve .result .waiting)
+
+abbrev pub hub-served : At tie.After-serve → Hub
+hub-served c =
+    let j = joined (coded c) in
+    let i = inner-at c in
+    let v = c .serve .last .1 .1 .1 .1 .1 .1 .1 .1 .1 in
+    hubOf (head-served c) (listed-in (start (outer i)))
+    (columns (touched-by j) (moved-by j) (v .0) (v .1 .0) (outer i .loop .marks) (v .1 .1 .1 .0) (v .1 .1 .1 .1 .0))
 
 pub turns :
-    (c : At tie.After-loop3) →
-    let n = judged (accepted-of (joined (placed (passed (pushing c))))) in
-    Turned (hub-in (inner-of n)) (looked (found n) .look .result) (hub-pushing (pushing c)) (passed (pushing c) .pass .result .sent .event)
+    (c : At tie.After-serve) →
+    let i = inner-at c in
+    Turned (hub-in i) (lookedOf (i .loop2 .waiting) (batch-in (outer i)) (i .loop2 .at)) (hub-served c) (c .serve .result .event)
 turns c =
-    let m = pushing c in
-    let p = passed m .pass in
-    let j = joined (placed (passed m)) in
-    let t = taken j in
-    let n = judged (accepted-of j) in
-    let d = t .take .result in
-    let more = m .before .wide in
-    let es = queueOf (d .next) (p .result .view) (d .event) (p .result .sent) in
-    turn-gated (hub-in (inner-of n)) (looked (found n) .look .result) (found n .find .ensures .is) (t .take .ensures)
-    (j .mark-joins .ensures) (placed (passed m) .before .before .head-after .ensures) (placed (passed m) .before .fewer .ensures) (p .ensures)
-    (pushed-are (inner-of n .loop2 .h .filters) _ d _ (p .ensures) (m .before .before .first-pushed .ensures) (more .ensures .0))
-    (push-done (hub-pushing m) es (m .loop3 .x) (more .result + 1) (c .loop3-test .left) (m .loop3 .inv .1) ∙ m .loop3 .inv .2)
+    let i = inner-at c in
+    let j = joined (coded c) in
+    let d = givesOf (taken (accepted j) .take .result) in
+    let m = head-marked j in
+    let s = listed-in (start (outer i)) in
+    turn-served (hub-in i) (batch-in (outer i)) (i .loop2 .at) (given (accepted j)) (j .mark-joins .ensures)
+    (served-hub m s (touched-by j) (moved-by j) (outer i .loop .marks) d (c .serve .ensures))
+    (served-event m s (touched-by j) (moved-by j) (outer i .loop .marks) d (c .serve .ensures))

@@ -1,8 +1,8 @@
--- `cells::push` meets its contract: a slot is stored at the first free place (`pushed-is`).
+-- `queueing::push` meets its contract: the event's slot stored at the free place.
 use borrow.Author.Needs.{needs}
-use Rattle.cells.specs.Pushed.{pushed-is}
-use Rattle.cells.proofs.push.Statement.{statement}
-use Rattle.cells.proofs.push.Tie as tie
+use Rattle.queueing.specs.Queued.{pushed-one}
+use Rattle.queueing.proofs.push.Statement.{statement}
+use Rattle.queueing.proofs.push.Tie as tie
 
 free-requires : tie.Need-free-requires
 free-requires c κs = search needs
@@ -18,7 +18,10 @@ longer-requires c κs = search needs
 
 returns : tie.Need-returns
 returns c =
-    pushed-is (c .before .before .before .before .before .before .before .free .ensures .is) (c .before .before .slot-of .ensures) (c .before .put-slot .ensures) (c .longer .ensures)
+    let stored = c .before in
+    let slot = stored .before in
+    let free = slot .before .before .before .before .before in
+    pushed-one (free .free .ensures .is) (slot .slot-of .ensures) (stored .put-slot .ensures) (c .longer .ensures)
 
 pub push-spec : {M : Type 1} → statement M
 push-spec =

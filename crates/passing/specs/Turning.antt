@@ -1,0 +1,58 @@
+-- A turn that takes an event, makes a record's marks and serves the event is the law book's: from what each of its calls answers.
+use Prim.Native.Nat.{ℕ}
+use mathlib.Core.Path.{_≡_, refl, sym, _∙_}
+use mathlib.Core.Bool.{Bool}
+use mathlib.Core.List.{List}
+use Rattle.rules.specs.declared.Hub.{Hub}
+use Rattle.rules.specs.declared.Event.{Event}
+use Rattle.rules.specs.Step.{lookedOf, filteredIn, turnedOf}
+use Rattle.steps.specs.Turns.{marked-is, Turned, turned}
+use Rattle.taking.specs.declared.Taken.{Taken}
+use Rattle.taking.specs.Taking.{GivenIs, givesOf}
+use Rattle.passing.specs.Passing.{MarkedIs}
+
+-- a hub with other marks, and another front and length of the queue
+abbrev pub markedHub : Hub → List Bool → List Bool → List Bool → List Bool → List Bool → ℕ → ℕ → Hub
+markedHub h connected renamed touched moved flags head waiting =
+    record {
+      pressed = h .pressed;
+      released = h .released;
+      reversed = h .reversed;
+      filters = h .filters;
+      updates = h .updates;
+      counter = h .counter;
+      pads = h .pads;
+      counts = h .counts;
+      connected = connected;
+      hats = h .hats;
+      converts = h .converts;
+      renamed = renamed;
+      rehats = h .rehats;
+      reconverts = h .reconverts;
+      codes = h .codes;
+      kinds = h .kinds;
+      names = h .names;
+      renames = h .renames;
+      elements = h .elements;
+      touched = touched;
+      buttons = h .buttons;
+      moved = moved;
+      axes = h .axes;
+      flags = flags;
+      queue = h .queue;
+      head = head;
+      waiting = waiting;
+    }
+
+pub turn-served :
+    (h : Hub) (s : List ℕ) (at : ℕ) {t : Taken} {connected renamed touched moved flags : List Bool} {u : Hub} {z : Event} →
+    GivenIs h s at t →
+    MarkedIs (h .connected) (h .renamed) (h .touched) (h .moved) (h .flags) (t .pad) (t .kind) connected renamed touched moved flags →
+    u ≡ turnedOf (markedHub h connected renamed touched moved flags (t .head) (t .waiting)) (givesOf t) →
+    z ≡ filteredIn (markedHub h connected renamed touched moved flags (t .head) (t .waiting)) (t .event) .gives .event →
+    Turned h (lookedOf (h .waiting) s at) u z
+turn-served h s at g marks eu ez =
+    let k = rw (g .pad, g .kind) at marks in
+    turned h (lookedOf (h .waiting) s at)
+    (marked-is h (lookedOf (h .waiting) s at .raw) refl refl refl (k .connected-is) (k .renamed-is) (k .touched-is) (k .moved-is) (k .flags-is) (g .head) (g .waiting))
+    (g .gives) refl ez eu
