@@ -19,8 +19,8 @@ use Rattle.pump_lent.proofs.pump.Statement.{statement}
 use Rattle.pump_lent.proofs.pump.Tie as tie
 use Rattle.pump_lent.proofs.pump.Proof.Loops.{Inv-loop2, μ-loop2, Inv-loop, μ-loop, At}
 use Rattle.pump_lent.proofs.pump.Proof.Landmarks as mark
-use Rattle.pump_lent.proofs.pump.Proof.Turns.{turns, hub-served, head-served}
-use Rattle.pump_lent.proofs.pump.Proof.Plain.{pump-refusal-requires, place-of-requires, sub-stop, mul-stop, sub-stop-2, stop-requires, stepped-requires, stop-answer-requires, same-length, stepped-requires-2, mark-joins-requires, code-of-requires, kept-requires}
+use Rattle.pump_lent.proofs.pump.Proof.Turns.{turns, head-served, hub-served, queuebytes-by, queuecodes-by}
+use Rattle.pump_lent.proofs.pump.Proof.Plain as plain
 
 returns : At tie.Need-returns
 returns c =
@@ -100,7 +100,7 @@ add-steps : At tie.Need-add-steps
 add-steps c = let i = mark.inner-of (mark.taken (mark.accepted c)) .loop2 .inv .0 in omega arith
 
 serve-requires : At tie.Need-serve-requires
-serve-requires c κs = mark.given (mark.accepted (mark.joined (c .before .before .before .before .before .before .before .before .before .before .before .before))) .placed
+serve-requires c κs = mark.given (mark.accepted (mark.joined (mark.lent c))) .placed
 
 loop2-less : At tie.Need-loop2-less
 loop2-less c = let r = mark.room-in (mark.going (mark.taken (mark.accepted-of (c .before .before .before)))) in omega arith
@@ -175,7 +175,6 @@ loop-again c =
     let r = mark.room-in (mark.going-of k) in
     let u = hub-served p in
     let z = p .serve .result .event in
-    let v = p .serve .last .1 .1 .1 .1 .1 .1 .1 .1 .1 in
     let wrote = c .before .before .write-event .ensures in
     let long = put-length (o .loop .out) (o .loop .events) (r .room) z wrote in (
       record {
@@ -189,7 +188,7 @@ loop-again c =
             (mark.goes-on y
             (step-keeps (mark.hub-in n) (mark.batch-in o) (l .at) (o .loop .out) (o .loop .events) (l .steps) refl (turns p) (mark.given y .place)
             (sym (k .before .kept .ensures) ∙ k .if4 .taken)
-            (settled-hub (head-served p) (mark.listed-in (mark.start o)) (v .1 .1 .1 .0) (v .1 .1 .1 .1 .0) (u .updates) z (w .settle .ensures))
+            (settled-hub (head-served p) (mark.listed-in (mark.start o)) (queuebytes-by p) (queuecodes-by p) (u .updates) z (w .settle .ensures))
             (put-is (o .loop .out) (o .loop .events) (r .room) z wrote)))
             ∙ i .same ∙ o .loop .inv .0 .same;
       },
@@ -205,29 +204,29 @@ pump-spec =
     μ-loop2
     Inv-loop
     μ-loop
-    pump-refusal-requires
+    plain.pump-refusal-requires
     returns
-    place-of-requires
+    plain.place-of-requires
     loop-holds
     loop2-holds
-    sub-stop
-    mul-stop
-    sub-stop-2
-    stop-requires
-    stepped-requires
-    stop-answer-requires
-    same-length
+    plain.sub-stop
+    plain.mul-stop
+    plain.sub-stop-2
+    plain.stop-requires
+    plain.stepped-requires
+    plain.stop-answer-requires
+    plain.same-length
     returns-2
     take-requires
-    stepped-requires-2
+    plain.stepped-requires-2
     same-length-2
     returns-3
-    mark-joins-requires
+    plain.mark-joins-requires
     sub-left
     add-steps
-    code-of-requires
+    plain.code-of-requires
     serve-requires
-    kept-requires
+    plain.kept-requires
     loop2-less
     loop2-again
     settle-requires

@@ -56,8 +56,12 @@ accepted c = c .before .before .before .before .before .before
 abbrev pub joined : At tie.After-code-of → At tie.After-mark-joins
 joined c = c .before .before
 
+-- all that is lent to `serve` is
+abbrev pub lent : At tie.After-flags3 → At tie.After-code-of
+lent c = c .before .before .before .before .before .before .before .before .before .before .before .before
+
 abbrev pub coded : At tie.After-serve → At tie.After-code-of
-coded c = c .before .before .before .before .before .before .before .before .before .before .before .before .before
+coded c = lent (c .before)
 
 abbrev pub accepted-of : At tie.After-serve → At tie.Else3
 accepted-of c = accepted (joined (coded c))
