@@ -80,6 +80,9 @@ pub fn pump<'s>(
     let mut flags = h.flags;
     let mut front = h.head;
     let mut waiting = h.waiting;
+    // lent on by itself, so that the head's other fields need not stand in memory
+    let converts = h.converts;
+    let reconverts = h.reconverts;
     let mut at = place;
     let mut events: usize = 0;
     let mut steps: usize = 0;
@@ -158,8 +161,8 @@ pub fn pump<'s>(
                 names,
                 renames,
                 &renamed,
-                &h.converts,
-                &h.reconverts,
+                &converts,
+                &reconverts,
                 touched,
                 moved,
                 values,

@@ -30,7 +30,7 @@ returns c =
 
 loop-holds : At tie.Need-loop-holds
 loop-holds c =
-    let n = c .before .before .before .before in
+    let n = c .before .before .before .before .before .before in
     let s = n .before .before .before .before in
     let a = s .args in
     let g = accepted (length (now (a .batch))) (length (now (a .out))) (a .place) (n .before .pump-refusal .ensures) (n .if1 .left) in (

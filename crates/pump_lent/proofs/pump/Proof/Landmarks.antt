@@ -25,7 +25,7 @@ use Rattle.pump_lent.proofs.pump.Proof.Loops.{At, hubAt}
 
 -- the call is not refused
 abbrev pub admitted : At tie.At-loop → At tie.Else1
-admitted c = c .before .before .before .before .before
+admitted c = c .before .before .before .before .before .before .before
 
 abbrev pub start : At tie.At-loop → At tie.Start
 start c = admitted c .before .before .before .before
@@ -58,7 +58,7 @@ joined c = c .before .before
 
 -- all that is lent to `serve` is
 abbrev pub lent : At tie.After-flags3 → At tie.After-code-of
-lent c = c .before .before .before .before .before .before .before .before .before .before .before .before
+lent c = c .before .before .before .before .before .before .before .before .before .before .before
 
 abbrev pub coded : At tie.After-serve → At tie.After-code-of
 coded c = lent (c .before)

@@ -21,7 +21,7 @@ hubAt head connected renamed flags front waiting s t = hubOf (steppedHead head c
 -- the inner loop: one step of the law book a turn
 abbrev pub Inv-loop2 : tie.InvT-loop2
 Inv-loop2 codes kinds names renames touched₀ moved₀ values₀ times₀ marks queuebytes₀ queuecodes₀ batch place out allowance h refused
-    connected₀ renamed₀ flags₀ front₀ waiting₀ at₀ events steps₀ left₀ lastpad₀ lastcode₀ last₀ touched moved values times queuebytes queuecodes
+    connected₀ renamed₀ flags₀ front₀ waiting₀ converts reconverts at₀ events steps₀ left₀ lastpad₀ lastcode₀ last₀ touched moved values times queuebytes queuecodes
     connected renamed flags front waiting at steps left lastpad lastcode last =
     Going
     (hubAt h connected renamed flags front waiting (listed codes kinds names renames) (columns touched moved values times marks queuebytes queuecodes))
@@ -36,14 +36,14 @@ Inv-loop2 codes kinds names renames touched₀ moved₀ values₀ times₀ marks
 
 abbrev pub μ-loop2 : tie.MeasureT-loop2
 μ-loop2 codes kinds names renames touched₀ moved₀ values₀ times₀ marks queuebytes₀ queuecodes₀ batch place out allowance h refused
-    connected₀ renamed₀ flags₀ front₀ waiting₀ at₀ events steps₀ left₀ lastpad₀ lastcode₀ last₀ touched moved values times queuebytes queuecodes
+    connected₀ renamed₀ flags₀ front₀ waiting₀ converts reconverts at₀ events steps₀ left₀ lastpad₀ lastcode₀ last₀ touched moved values times queuebytes queuecodes
     connected renamed flags front waiting at steps left lastpad lastcode last =
     left
 
 -- the outer loop: one kept event a turn
 abbrev pub Inv-loop : tie.InvT-loop
 Inv-loop codes kinds names renames touched₀ moved₀ values₀ times₀ marks₀ queuebytes₀ queuecodes₀ batch place out₀ allowance h refused
-    connected₀ renamed₀ flags₀ front₀ waiting₀ at₀ events₀ steps₀ left₀ lastpad₀ lastcode₀ last₀ touched moved values times marks queuebytes queuecodes
+    connected₀ renamed₀ flags₀ front₀ waiting₀ converts reconverts at₀ events₀ steps₀ left₀ lastpad₀ lastcode₀ last₀ touched moved values times marks queuebytes queuecodes
     out connected renamed flags front waiting at events steps left lastpad lastcode last =
     Going
     (hubAt h connected renamed flags front waiting (listed codes kinds names renames) (columns touched moved values times marks queuebytes queuecodes))
@@ -58,7 +58,7 @@ Inv-loop codes kinds names renames touched₀ moved₀ values₀ times₀ marks�
 
 abbrev pub μ-loop : tie.MeasureT-loop
 μ-loop codes kinds names renames touched₀ moved₀ values₀ times₀ marks₀ queuebytes₀ queuecodes₀ batch place out₀ allowance h refused
-    connected₀ renamed₀ flags₀ front₀ waiting₀ at₀ events₀ steps₀ left₀ lastpad₀ lastcode₀ last₀ touched moved values times marks queuebytes queuecodes
+    connected₀ renamed₀ flags₀ front₀ waiting₀ converts reconverts at₀ events₀ steps₀ left₀ lastpad₀ lastcode₀ last₀ touched moved values times marks queuebytes queuecodes
     out connected renamed flags front waiting at events steps left lastpad lastcode last =
     left
 
