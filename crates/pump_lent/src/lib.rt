@@ -66,23 +66,23 @@ pub fn pump<'s>(
         (now (queuebytes .entry)) (now (queuecodes .entry))))
         (now (batch .entry)) place (now (out .entry)) allowance ⌝ }
 {
-    let h = head;
+    let settings = head;
     let refused = refusals::pump_refusal(batch.len(), out.len(), place);
     if 0 < refused {
         return PumpedHead {
-            head: h,
+            head: settings,
             answer: PumpAnswer::Refused(refused, place, 0, 0),
         };
     }
     // what steps change of the head
-    let mut connected = h.connected;
-    let mut renamed = h.renamed;
-    let mut flags = h.flags;
-    let mut front = h.head;
-    let mut waiting = h.waiting;
+    let mut connected = settings.connected;
+    let mut renamed = settings.renamed;
+    let mut flags = settings.flags;
+    let mut front = settings.head;
+    let mut waiting = settings.waiting;
     // lent on by itself, so that the head's other fields need not stand in memory
-    let converts = h.converts;
-    let reconverts = h.reconverts;
+    let converts = settings.converts;
+    let reconverts = settings.reconverts;
     let mut at = place;
     let mut events: usize = 0;
     let mut steps: usize = 0;
@@ -92,7 +92,7 @@ pub fn pump<'s>(
     let mut lastcode: u32 = 0;
     let mut last = pad::place_of(codes, lastpad, lastcode);
     loop {
-        let ev = loop {
+        let kept = loop {
             let why = turn::stop(
                 waiting,
                 batch.len() - at,
@@ -101,12 +101,12 @@ pub fn pump<'s>(
             );
             if 0 < why {
                 return PumpedHead {
-                    head: stepped(h, connected, renamed, flags, front, waiting),
+                    head: stepped(settings, connected, renamed, flags, front, waiting),
                     answer: turn::stop_answer(why, at, events, steps),
                 };
             }
             // gather and decide: what is taken
-            let t = taking::take(
+            let taken = taking::take(
                 codes,
                 kinds,
                 names,
@@ -122,18 +122,18 @@ pub fn pump<'s>(
                 at,
                 waiting,
                 front,
-                h.pads,
-                h.pressed,
-                h.released,
-                h.reversed,
+                settings.pads,
+                settings.pressed,
+                settings.released,
+                settings.reversed,
                 lastpad,
                 lastcode,
                 last,
             );
-            if 0 < t.number {
+            if 0 < taken.number {
                 return PumpedHead {
-                    head: stepped(h, connected, renamed, flags, front, waiting),
-                    answer: PumpAnswer::Refused(t.number, at, events, steps),
+                    head: stepped(settings, connected, renamed, flags, front, waiting),
+                    answer: PumpAnswer::Refused(taken.number, at, events, steps),
                 };
             }
             // commit: the marks of a taken record, the ring, the place
@@ -143,19 +143,19 @@ pub fn pump<'s>(
                 touched,
                 moved,
                 &mut flags,
-                t.pad,
-                t.kind,
+                taken.pad,
+                taken.kind,
             );
-            at = t.at;
-            front = t.head;
+            at = taken.at;
+            front = taken.head;
             left = left - 1;
             steps = steps + 1;
-            let e = t.event;
-            lastpad = e.pad;
-            lastcode = events::code_of(e);
-            last = t.place;
+            let event = taken.event;
+            lastpad = event.pad;
+            lastcode = events::code_of(event);
+            last = taken.place;
             // what the filters make of the event; commit: flags and queue
-            let r = passing::serve(
+            let served = passing::serve(
                 codes,
                 kinds,
                 names,
@@ -171,13 +171,13 @@ pub fn pump<'s>(
                 queuebytes,
                 queuecodes,
                 &mut flags,
-                h.filters,
-                t,
+                settings.filters,
+                taken,
             );
-            waiting = r.waiting;
-            let z = r.event;
-            if events::kept(h.filters, z) {
-                break z;
+            waiting = served.waiting;
+            let sent = served.event;
+            if events::kept(settings.filters, sent) {
+                break sent;
             }
         };
         // commit: the state, and the event's bytes
@@ -188,14 +188,14 @@ pub fn pump<'s>(
             values,
             times,
             marks,
-            h.updates,
-            ev,
-            h.counter,
+            settings.updates,
+            kept,
+            settings.counter,
             lastpad,
             lastcode,
             last,
         );
-        wire::write_event(&mut out[EVENT_SIZE * events..], ev);
+        wire::write_event(&mut out[EVENT_SIZE * events..], kept);
         events = events + 1;
     }
 }
