@@ -1,10 +1,14 @@
-"""How often a program copies memory: the calls of memcpy in its code, each with how often a run makes it.
+"""Where a program copies memory: the calls of memcpy in its code; and how often a run under callgrind makes each.
 
-A copy of the hub is far over 128 bytes, so the compiler makes it a call of memcpy, memmove or, rarely, `rep movs`.
-objdump shows the calls; callgrind, told to count by instruction, how often the code goes by each."""
+A copy of an array of the hub is over 128 bytes, so the compiler makes it a call of memcpy, memmove or, rarely, `rep movs`. objdump shows the calls;
+callgrind, told to count by instruction, how often the code goes by each."""
+import platform
 import re
+import shutil
 import subprocess
 
+# on another machine Debian's binutils-x86-64-linux-gnu
+OBJDUMP = shutil.which('objdump' if platform.machine() == 'x86_64' else 'x86_64-linux-gnu-objdump')
 CALL = re.compile(r'^ *([0-9a-f]+):\t(?:call|jmp) .*<(memcpy|memmove)@plt>')
 SIZE = re.compile(r'mov +\$0x([0-9a-f]+),%edx')
 REPEATED = re.compile(r'\trep movs')
@@ -14,7 +18,7 @@ LOOK_BACK = 12  # instructions before a call, among which its size stands if it 
 
 
 def code(program):
-    return subprocess.run(['objdump', '-d', '--no-show-raw-insn', program], capture_output=True, text=True, check=True).stdout.splitlines()
+    return subprocess.run([OBJDUMP, '-d', '--no-show-raw-insn', program], capture_output=True, text=True, check=True).stdout.splitlines()
 
 
 def sites(program):

@@ -1,8 +1,11 @@
 //! The benchmark's half on gilrs, unchanged, over the oracle's stand-ins:
 //!     crate_pace stream SEED       writes the course of mixed records
+//!     crate_pace singly SEED       writes the course of one record a call, with a query after each
+//!     crate_pace bare CALLS        writes the course of a batch and so many calls that find nothing
+//!     crate_pace asking QUERIES    writes the course of a batch and so many queries
 //!     crate_pace taking STEPS      writes the course that takes STEPS events while up to 48 wait
 //!     crate_pace pushing STEPS     writes the course that converts STEPS hat events while 16 and more wait
-//!     crate_pace pace < COURSE     paces gilrs over a stream, behind its 4 bytes of rounds
+//!     crate_pace pace < COURSE     paces gilrs over one of the first four, behind its 4 bytes of rounds
 //! `benchmark/README.md` says what a course is.
 
 #[allow(dead_code)] // the desk's parts, of which a course needs a few
@@ -19,6 +22,7 @@ mod pace;
 #[allow(dead_code)]
 #[path = "../../oracle/player/random.rs"]
 mod random;
+mod single;
 mod stream;
 mod waiting;
 
@@ -30,6 +34,9 @@ fn main() {
     let words: Vec<&str> = arguments.iter().map(String::as_str).collect();
     let done = match words[..] {
         ["stream", seed] => io::stdout().write_all(&stream::course(number(seed))),
+        ["singly", seed] => io::stdout().write_all(&single::singly(number(seed))),
+        ["bare", calls] => io::stdout().write_all(&single::bare(number(calls))),
+        ["asking", queries] => io::stdout().write_all(&single::asking(number(queries))),
         ["taking", steps] => io::stdout().write_all(&waiting::taking(number(steps))),
         ["pushing", steps] => io::stdout().write_all(&waiting::pushing(number(steps))),
         ["pace"] => {
@@ -37,7 +44,7 @@ fn main() {
             io::stdin().read_to_end(&mut course).map(|_| pace::pace(&course))
         }
         _ => {
-            eprintln!("crate_pace stream SEED | taking STEPS | pushing STEPS | pace");
+            eprintln!("crate_pace stream SEED | singly SEED | bare CALLS | asking QUERIES | taking STEPS | pushing STEPS | pace");
             exit(2)
         }
     };

@@ -11,7 +11,7 @@ use reading::LONGEST_BUFFER;
 
 /// So many records give fewer events than an out buffer holds, and a course fits into the hub's buffer.
 const BATCHES: usize = 128;
-const RECORDS: usize = 372;
+pub const RECORDS: usize = 372;
 pub const ALLOWANCE: u64 = 65_535;
 
 const HAT_X: u32 = 0x0003_0010;
@@ -25,7 +25,7 @@ const TRIGGERS: u64 = 15;
 const HATS: u64 = 25;
 
 /// Codes and names of the buttons but the directions and the second triggers, codes rising.
-const BUTTON_CODES: [(u32, u8); 11] = [
+pub const BUTTON_CODES: [(u32, u8); 11] = [
     (0x0001_0130, 1),
     (0x0001_0131, 2),
     (0x0001_0133, 3),
@@ -96,6 +96,12 @@ pub fn pump(allowance: u64, batch: &[u8]) -> Vec<u8> {
     scenario::write(scenario::PUMP, &payload)
 }
 
+/// A call that takes all that its records give.
+pub fn pump_all(records: &[Record]) -> Vec<u8> {
+    let batch: Vec<u8> = records.iter().flat_map(Record::to_bytes).collect();
+    pump(ALLOWANCE, &batch)
+}
+
 /// The opening behind its length, and what each round plays.
 pub fn joined(opening: &[u8], round: &[u8]) -> Vec<u8> {
     let mut bytes = Vec::new();
@@ -105,15 +111,21 @@ pub fn joined(opening: &[u8], round: &[u8]) -> Vec<u8> {
     bytes
 }
 
-pub fn course(seed: u64) -> Vec<u8> {
-    let mut random = Random::new(seed);
+/// The opening and a round on four pads that filter and update.
+pub fn played(round: &[u8]) -> Vec<u8> {
+    joined(&opening(FILTERS_ON | UPDATES_ON, &pads()), round)
+}
+
+/// The first records of the stream.
+pub fn records(random: &mut Random, count: usize) -> Vec<Record> {
     let mut desk = Desk::new(pads());
-    let mut round = Vec::new();
-    for _ in 0..BATCHES {
-        let batch: Vec<u8> = (0..RECORDS).flat_map(|_| desk.record(&mut random).to_bytes()).collect();
-        round.extend(pump(ALLOWANCE, &batch));
-    }
-    joined(&opening(FILTERS_ON | UPDATES_ON, &desk.pads), &round)
+    (0..count).map(|_| desk.record(random)).collect()
+}
+
+pub fn course(seed: u64) -> Vec<u8> {
+    let records = records(&mut Random::new(seed), BATCHES * RECORDS);
+    let round: Vec<u8> = records.chunks(RECORDS).flat_map(pump_all).collect();
+    played(&round)
 }
 
 /// The pads, each element's last value (of a button 1 while it is held), and the clock.

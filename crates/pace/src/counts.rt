@@ -3,14 +3,15 @@ use libc::STDOUT_FILENO;
 use rules::PumpAnswer;
 use wire::RECORD_SIZE;
 
-// The pump calls, those of them that drained, the records they took, the events they wrote and the steps they made; the refused calls of any kind;
-// and how many events the last pump call wrote.
+// The pump calls, those of them that drained, the records they took, the events they wrote and the steps they made; the queries that were answered true; the
+// refused calls of any kind; and how many events the last pump call wrote.
 pub struct Counts {
     pub calls: u64,
     pub drained: u64,
     pub records: u64,
     pub events: u64,
     pub steps: u64,
+    pub held: u64,
     pub refusals: u64,
     pub last: usize,
 }
@@ -22,6 +23,7 @@ pub fn start(refusals: u64) -> Counts {
         records: 0,
         events: 0,
         steps: 0,
+        held: 0,
         refusals,
         last: 0,
     }
@@ -34,6 +36,13 @@ fn sum(a: u64, b: u64) -> u64 {
 pub fn refused(c: Counts) -> Counts {
     let mut d = c;
     d.refusals = sum(c.refusals, 1);
+    d
+}
+
+// A query whether a button is pressed, and its answer.
+pub fn asked(c: Counts, held: bool) -> Counts {
+    let mut d = c;
+    d.held = sum(c.held, held as u64);
     d
 }
 
@@ -57,6 +66,7 @@ fn stopped(c: Counts, records: u64, events: usize, steps: usize) -> Counts {
         records: sum(c.records, records),
         events: sum(c.events, events as u64),
         steps: sum(c.steps, steps as u64),
+        held: c.held,
         refusals: c.refusals,
         last: events,
     }
@@ -91,4 +101,5 @@ pub fn told(c: Counts) {
     told_one(b"RECORDS ", c.records);
     told_one(b"EVENTS ", c.events);
     told_one(b"STEPS ", c.steps);
+    told_one(b"HELD ", c.held);
 }

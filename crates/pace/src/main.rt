@@ -1,15 +1,18 @@
 // Paces the hub: plays the operations of a course again and again, so that the program's time is the time of the calls, and prints what they did.
-// `benchmark/README.md` says what a course is. Proved: it is safe and ends on every input.
+// `benchmark/README.md` says what a course is. The arrays of the hub are locals, lent to each call. Proved: it is safe and ends on every input.
 mod counts;
+mod operations;
 
+use columns::Marks;
+use columns::QueueBytes;
+use columns::QueueCodes;
+use columns::Times;
+use columns::Values;
 use counts::Counts;
+use hub::Head;
 use libc::STDIN_FILENO;
 use libc::STDOUT_FILENO;
-use rules::Answer;
-use rules::Answered;
-use rules::Hub;
-use rules::RegisterAnswer;
-use rules::Registered;
+use operations::Played;
 ghost use mathlib.Core.Path.{_≡_};
 ghost use Prim.Native.Nat.{_≤_, _<_};
 ghost use lib.ListN.{length};
@@ -20,62 +23,131 @@ const COURSE_HEAD: usize = 8;
 const OPERATION_HEAD: usize = 5;
 
 const NEW: u8 = 1;
+// the first operation is `new`: its payload has pressed 4, released 4, flags 1
+const PRESSED_AT: usize = 13;
 
-const REGISTER: u8 = 2;
+const RELEASED_AT: usize = 17;
 
-const PUMP: u8 = 4;
-
-const UPDATE: u8 = 5;
-
-const INSERT: u8 = 6;
-// the payload of `new`: pressed 4, released 4, flags 1
-const NEW_SIZE: usize = 9;
+const FLAGS_AT: usize = 21;
 // the bits of the flags
 const REVERSED: u8 = 1;
 
 const FILTERS: u8 = 2;
 
 const UPDATES: u8 = 4;
-// the payload of a pump: place 4, out size 4, allowance 2, the batch
-const PUMP_HEAD: usize = 10;
+// and behind it the course goes on
+const OPENED: usize = 22;
 
-// The hub after some operations, and what they did.
-struct Played {
-    hub: Hub,
-    counts: Counts,
-}
-
-fn least(a: usize, b: usize) -> usize
-    ensures { λ r. ⌜ (r ≤ a) × (r ≤ b) ⌝ }
-{
-    if a < b { a } else { b }
-}
-
-// ---- the operations
-
-fn refused(h: Hub, c: Counts) -> Played {
-    Played {
-        hub: h,
-        counts: counts::refused(c),
+// Operations, one after the other, up to one that is cut short.
+fn play(
+    head: Head,
+    codes: &mut [u32; 208],
+    kinds: &mut [u8; 208],
+    names: &mut [u8; 208],
+    renames: &[u8; 208],
+    touched: &mut [bool; 208],
+    moved: &mut [bool; 208],
+    values: &mut Values,
+    times: &mut Times,
+    marks: &mut Marks,
+    queuebytes: &mut QueueBytes,
+    queuecodes: &mut QueueCodes,
+    operations: &[u8],
+    out: &mut [u8],
+    before: Counts,
+) -> Played {
+    let mut h = head;
+    let mut c = before;
+    let mut at: usize = 0;
+    while OPERATION_HEAD <= operations.len() - at {
+        let start = at + OPERATION_HEAD;
+        let size = wire::read4(operations, at + 1) as usize;
+        if operations.len() - start < size {
+            return operations::refused(h, c);
+        }
+        let end = start + size;
+        let r = operations::operation(
+            h,
+            codes,
+            kinds,
+            names,
+            renames,
+            touched,
+            moved,
+            values,
+            times,
+            marks,
+            queuebytes,
+            queuecodes,
+            operations[at],
+            &operations[start..end],
+            out,
+            c,
+        );
+        let next = r.head;
+        h = next;
+        c = r.counts;
+        at = end;
     }
+    Played { head: h, counts: c }
 }
 
-fn answered(r: Answered, c: Counts) -> Played {
-    let hub = r.hub;
-    let answer = r.answer;
-    match answer {
-        Answer::Done => Played { hub, counts: c },
-        Answer::Refused(_) => refused(hub, c),
-    }
+// A round, on arrays of its own that begin as those lent: each round begins from the hub that the opening left.
+fn round(
+    head: Head,
+    codes: &[u32; 208],
+    kinds: &[u8; 208],
+    names: &[u8; 208],
+    renames: &[u8; 208],
+    touched: &[bool; 208],
+    moved: &[bool; 208],
+    values: &Values,
+    times: &Times,
+    marks: &Marks,
+    queuebytes: &QueueBytes,
+    queuecodes: &QueueCodes,
+    operations: &[u8],
+    out: &mut [u8],
+    before: Counts,
+) -> Counts {
+    let mut own_codes = *codes;
+    let mut own_kinds = *kinds;
+    let mut own_names = *names;
+    let mut own_touched = *touched;
+    let mut own_moved = *moved;
+    let mut own_values = *values;
+    let mut own_times = *times;
+    let mut own_marks = *marks;
+    let mut own_queuebytes = *queuebytes;
+    let mut own_queuecodes = *queuecodes;
+    let r = play(
+        head,
+        &mut own_codes,
+        &mut own_kinds,
+        &mut own_names,
+        renames,
+        &mut own_touched,
+        &mut own_moved,
+        &mut own_values,
+        &mut own_times,
+        &mut own_marks,
+        &mut own_queuebytes,
+        &mut own_queuecodes,
+        operations,
+        out,
+        before,
+    );
+    r.counts
 }
 
-fn registered(r: Registered, c: Counts) -> Played {
-    let hub = r.hub;
-    let answer = r.answer;
-    match answer {
-        RegisterAnswer::Pad(_) => Played { hub, counts: c },
-        RegisterAnswer::Refused(_) => refused(hub, c),
-    }
+// ---- the course
+
+struct Settings {
+    pressed: f32,
+    released: f32,
+    reversed: bool,
+    filters: bool,
+    updates: bool,
 }
 
 fn has(flags: u8, flag: u8) -> bool
@@ -84,97 +156,121 @@ fn has(flags: u8, flag: u8) -> bool
     flags / flag % 2 == 1
 }
 
-fn begun(h: Hub, payload: &[u8], c: Counts) -> Played {
-    if payload.len() != NEW_SIZE {
-        return refused(h, c);
+// Of the course's first operation, `new`. Another has none, and thresholds that are refused.
+fn settings_of(course: &[u8]) -> Settings
+    requires { ⌜ 22 ≤ length (now course) ⌝ }
+{
+    if course[COURSE_HEAD] != NEW {
+        return Settings {
+            pressed: 0.0,
+            released: 0.0,
+            reversed: false,
+            filters: false,
+            updates: false,
+        };
     }
-    let flags = payload[8];
-    let r = desk::new_hub(
-        binary32::of_bits(wire::read4(payload, 0)),
-        binary32::of_bits(wire::read4(payload, 4)),
-        has(flags, REVERSED),
-        has(flags, FILTERS),
-        has(flags, UPDATES),
-    );
-    answered(r, c)
-}
-
-fn pumped(h: Hub, payload: &[u8], out: &mut [u8], c: Counts) -> Played {
-    if payload.len() < PUMP_HEAD {
-        return refused(h, c);
-    }
-    let place = wire::read4(payload, 0) as usize;
-    let size = least(wire::read4(payload, 4) as usize, out.len());
-    let allowance = wire::read2(payload, 8);
-    let r = pump::pump(h, &payload[PUMP_HEAD..], place, &mut out[..size], allowance);
-    let hub = r.hub;
-    let answer = r.answer;
-    Played {
-        hub,
-        counts: counts::pumped(c, place, answer),
+    let flags = course[FLAGS_AT];
+    Settings {
+        pressed: binary32::of_bits(wire::read4(course, PRESSED_AT)),
+        released: binary32::of_bits(wire::read4(course, RELEASED_AT)),
+        reversed: has(flags, REVERSED),
+        filters: has(flags, FILTERS),
+        updates: has(flags, UPDATES),
     }
 }
 
-// What is no operation of a course counts as refused.
-fn operation(h: Hub, opcode: u8, payload: &[u8], out: &mut [u8], c: Counts) -> Played {
-    if opcode == PUMP {
-        return pumped(h, payload, out, c);
+// Where the opening ends, behind its first operation.
+fn opening_end(course: &[u8]) -> usize
+    requires { ⌜ 22 ≤ length (now course) ⌝ }
+    ensures { λ r. ⌜ (22 ≤ r) × (r ≤ length (now (course .entry))) ⌝ }
+{
+    let end = COURSE_HEAD + wire::read4(course, 4) as usize;
+    if end < OPENED {
+        return OPENED;
     }
-    if opcode == NEW {
-        return begun(h, payload, c);
+    if course.len() < end {
+        return course.len();
     }
-    if opcode == REGISTER {
-        return registered(desk::register(h, payload), c);
-    }
-    if opcode == UPDATE {
-        return answered(calls::update(h, payload), c);
-    }
-    if opcode == INSERT {
-        return answered(calls::insert_event(h, payload), c);
-    }
-    refused(h, c)
+    end
 }
 
-// ---- the course
-
-// Operations, one after the other, up to one that is cut short.
-fn play(hub: Hub, operations: &[u8], out: &mut [u8], before: Counts) -> Played {
-    let mut h = hub;
-    let mut c = before;
-    let mut at: usize = 0;
-    while OPERATION_HEAD <= operations.len() - at {
-        let start = at + OPERATION_HEAD;
-        let size = wire::read4(operations, at + 1) as usize;
-        if operations.len() - start < size {
-            return refused(h, c);
-        }
-        let end = start + size;
-        let r = operation(h, operations[at], &operations[start..end], out, c);
-        let next = r.hub;
-        h = next;
-        c = r.counts;
-        at = end;
-    }
-    Played { hub: h, counts: c }
-}
-
-// The opening once, and then the rounds, each from the hub that the opening left.
+// The opening once, and then the rounds.
 fn paced(course: &[u8], out: &mut [u8]) -> Counts {
-    let blank = desk::new_hub(0.75, 0.5, false, false, false);
-    let none = blank.hub;
-    if course.len() < COURSE_HEAD {
+    if course.len() < OPENED {
         return counts::refused(counts::start(0));
     }
     let mut left = wire::read4(course, 0);
-    let size = least(wire::read4(course, 4) as usize, course.len() - COURSE_HEAD);
-    let end = COURSE_HEAD + size;
-    let opened = play(none, &course[COURSE_HEAD..end], out, counts::start(0));
-    let hub = opened.hub;
+    let end = opening_end(course);
+    let s = settings_of(course);
+    let mut codes = [0u32; 208];
+    let mut kinds = [0u8; 208];
+    let mut names = [0u8; 208];
+    let mut renames = [0u8; 208];
+    let mut touched = [false; 208];
+    let mut moved = [false; 208];
+    let mut values = [0.0f32; 1109];
+    let mut times = [0u64; 900];
+    let mut marks = [false; 627];
+    let mut queuebytes = [0u8; 192];
+    let mut queuecodes = [0u32; 64];
+    let new = desk_lent::new_hub(
+        s.pressed,
+        s.released,
+        s.reversed,
+        s.filters,
+        s.updates,
+        &mut codes,
+        &mut kinds,
+        &mut names,
+        &mut renames,
+        &mut touched,
+        &mut moved,
+        &mut values,
+        &mut times,
+        &mut marks,
+        &mut queuebytes,
+        &mut queuecodes,
+    );
+    let empty = new.head;
+    let answer = new.answer;
+    let opened = play(
+        empty,
+        &mut codes,
+        &mut kinds,
+        &mut names,
+        &renames,
+        &mut touched,
+        &mut moved,
+        &mut values,
+        &mut times,
+        &mut marks,
+        &mut queuebytes,
+        &mut queuecodes,
+        &course[OPENED..end],
+        out,
+        operations::counted(answer, counts::start(0)),
+    );
+    let head = opened.head;
     let opening = opened.counts;
     let mut c = counts::start(opening.refusals);
     while 0 < left {
-        let r = play(hub, &course[end..], out, c);
-        c = r.counts;
+        c = round(
+            head,
+            &codes,
+            &kinds,
+            &names,
+            &renames,
+            &touched,
+            &moved,
+            &values,
+            &times,
+            &marks,
+            &queuebytes,
+            &queuecodes,
+            &course[end..],
+            out,
+            c,
+        );
         left -= 1;
     }
     c

@@ -10,13 +10,12 @@ use lib.ListN.{length, take}
 use lib.Dec.{eqb}
 use borrow.Author.Tests.{eq-eqb, ne-eqb}
 use Rattle.rules.specs.declared.Hub.{Hub}
-use Rattle.rules.specs.declared.Pumped.{Pumped}
-use Rattle.steps.specs.Runs.{leaves}
+use Rattle.rules.specs.Pump.{Run}
 use Rattle.lines.specs.Appending.{Appended}
 use Rattle.lines.specs.Text.{heldOf, linesOf}
 use Rattle.lines.proofs.Laws.{Laid, laid, grown, laid-take, appended-length}
 use Rattle.padlog.specs.declared.Tally.{Tally}
-use Rattle.padlog.specs.Log.{Told, goesOn, tallyOf, tallied, lastLine, pumpAll, printed, roundsOf}
+use Rattle.padlog.specs.Log.{Told, goesOn, tallied, lastLine, pumpAll, printed, roundsOf}
 use Rattle.padlog.specs.Bounds.{Bounded, pump-bounded}
 
 -- `whole` is the text so far and that of the `left` calls to come; there is room for 744 lines a call and the last line
@@ -32,52 +31,52 @@ recount batch whole h place out steps text at left n e s = subst (λ (k : ℕ). 
 
 module _ (batch whole : List ℕ) (h : Hub) (place : ℕ) (out : List ℕ) (steps : ℕ) (text : List ℕ) (at left : ℕ)
     (s : Standing batch whole h place out steps text at (suc left)) (size : length text ≡ 559538) (long : length out ≡ 16384)
-    (p : Pumped) (o : List ℕ) (er : leaves p o ≡ pumpAll h batch place out) (t : Tally) (et : t ≡ tallyOf (p .answer)) where
-  bounded : Bounded (leaves p o) out 65535
+    (r : Run) (er : r ≡ pumpAll h batch place out) (t : Tally) (et : t ≡ tallied r) where
+  bounded : Bounded r out 65535
   unfolding pumpAll
   bounded = rw er (pump-bounded h batch place out 65535)
 
   pub steps-few : t .steps ≤ 65535
   steps-few = rw et (bounded .few)
 
-  events-held : heldOf o (t .events) ≡ t .events
+  events-held : heldOf (r .out) (t .events) ≡ t .events
   unfolding heldOf
   events-held =
       let held : 22 * t .events ≤ length out = rw et (bounded .held) in
-      let same : length o ≡ length out = bounded .long in
+      let same : length (r .out) ≡ length out = bounded .long in
       min-eq-left (omega arith)
 
-  module _ (text' : List ℕ) (at' : ℕ) (a : Appended (94 * heldOf o (t .events)) (linesOf o (heldOf o (t .events))) text at text' at') where
-    events-laid : Laid 69936 (linesOf o (t .events)) text at text' at'
+  module _ (text' : List ℕ) (at' : ℕ) (a : Appended (94 * heldOf (r .out) (t .events)) (linesOf (r .out) (heldOf (r .out) (t .events))) text at text' at') where
+    events-laid : Laid 69936 (linesOf (r .out) (t .events)) text at text' at'
     events-laid =
         let held : 22 * t .events ≤ length out = rw et (bounded .held) in
         let room : at + (69936 * suc left + 50) ≤ 559538 = s .room in
-        let is : heldOf o (t .events) ≡ t .events = events-held in
-        grown _ 69936 _ _ _ _ _ _ (laid _ _ _ _ _ _ a (omega arith)) (ap (linesOf o) is) (omega arith)
+        let is : heldOf (r .out) (t .events) ≡ t .events = events-held in
+        grown _ 69936 _ _ _ _ _ _ (laid _ _ _ _ _ _ a (omega arith)) (ap (linesOf (r .out)) is) (omega arith)
 
-    so-far : take at' text' ≡ take at text ++ linesOf o (t .events)
+    so-far : take at' text' ≡ take at text ++ linesOf (r .out) (t .events)
     so-far =
         let room : at + (69936 * suc left + 50) ≤ 559538 = s .room in
         laid-take _ _ _ _ _ _ events-laid (omega arith)
 
     -- what the calls to come print, from this one on
     to-come : roundsOf (suc left) h batch place out steps
-        ≡ linesOf o (t .events)
-        ++ cond (eqb (t .ends) goesOn) (roundsOf left (p .hub) batch (t .place) o (steps + t .steps)) (lastLine t steps)
+        ≡ linesOf (r .out) (t .events)
+        ++ cond (eqb (t .ends) goesOn) (roundsOf left (r .pumped .hub) batch (t .place) (r .out) (steps + t .steps)) (lastLine t steps)
     unfolding roundsOf printed
     to-come = rw (et, ← er)
 
-    pub goes-on : t .ends ≡ goesOn → Standing batch whole (p .hub) (t .place) o (steps + t .steps) text' at' left
+    pub goes-on : t .ends ≡ goesOn → Standing batch whole (r .pumped .hub) (t .place) (r .out) (steps + t .steps) text' at' left
     goes-on e =
         let room : at + (69936 * suc left + 50) ≤ 559538 = s .room in
         let few : steps + 65535 * suc left ≤ 524280 = s .few in
         let made : t .steps ≤ 65535 = steps-few in
         let same : length text' ≡ length text = appended-length _ _ _ _ _ _ a in
-        let next : at' ≡ at + length (linesOf o (t .events)) = events-laid .place in
-        let short : length (linesOf o (t .events)) ≤ 69936 = events-laid .short in
+        let next : at' ≡ at + length (linesOf (r .out) (t .events)) = events-laid .place in
+        let short : length (linesOf (r .out) (t .events)) ≤ 69936 = events-laid .short in
         record {
           told =
-              ap (λ (l : List ℕ). l ++ roundsOf left (p .hub) batch (t .place) o (steps + t .steps)) so-far ∙ append-assoc (take at text) (linesOf o (t .events)) _
+              ap (λ (l : List ℕ). l ++ roundsOf left (r .pumped .hub) batch (t .place) (r .out) (steps + t .steps)) so-far ∙ append-assoc (take at text) (linesOf (r .out) (t .events)) _
               ∙ ap (λ (l : List ℕ). take at text ++ l) (sym (to-come ∙ rw (eq-eqb _ _ e))) ∙ s .told;
           room = omega arith;
           within = omega arith;
@@ -89,8 +88,8 @@ module _ (batch whole : List ℕ) (h : Hub) (place : ℕ) (out : List ℕ) (step
     last-room =
         let room : at + (69936 * suc left + 50) ≤ 559538 = s .room in
         let same : length text' ≡ length text = appended-length _ _ _ _ _ _ a in
-        let next : at' ≡ at + length (linesOf o (t .events)) = events-laid .place in
-        let short : length (linesOf o (t .events)) ≤ 69936 = events-laid .short in
+        let next : at' ≡ at + length (linesOf (r .out) (t .events)) = events-laid .place in
+        let short : length (linesOf (r .out) (t .events)) ≤ 69936 = events-laid .short in
         omega arith
 
     module _ (text'' : List ℕ) (at'' : ℕ) (b : Appended 50 (lastLine t steps) text' at' text'' at'') where
@@ -105,7 +104,7 @@ module _ (batch whole : List ℕ) (h : Hub) (place : ℕ) (out : List ℕ) (step
           let short : length (lastLine t steps) ≤ 50 = last-laid .short in
           record {
             is =
-                laid-take _ _ _ _ _ _ last-laid last-room ∙ ap (λ (l : List ℕ). l ++ lastLine t steps) so-far ∙ append-assoc (take at text) (linesOf o (t .events)) _
+                laid-take _ _ _ _ _ _ last-laid last-room ∙ ap (λ (l : List ℕ). l ++ lastLine t steps) so-far ∙ append-assoc (take at text) (linesOf (r .out) (t .events)) _
                 ∙ ap (λ (l : List ℕ). take at text ++ l) (sym (to-come ∙ rw (ne-eqb _ _ n))) ∙ s .told;
             within = omega arith;
           }

@@ -1,14 +1,20 @@
 // Document 01's padlog: "reads standard input, one sheet and then one batch", and prints a line per event and a last line. All its work is `log`, on
-// lent slices; `main` reads and writes.
+// lent slices, which holds the hub's arrays and lends them to each call; `main` reads and writes.
+use columns::Marks;
+use columns::QueueBytes;
+use columns::QueueCodes;
+use columns::Times;
+use columns::Values;
+use hub::Head;
 use libc::STDIN_FILENO;
 use libc::STDOUT_FILENO;
 use lines::NEWLINE;
-use rules::Hub;
 use rules::PumpAnswer;
 use rules::RegisterAnswer;
 ghost use mathlib.Core.Path.{_≡_};
 ghost use Prim.Native.Nat.{_+_, _^_, _≤_, _<_};
 ghost use lib.ListN.{length};
+ghost use Rattle.hub.specs.Lent.{listed, columns, hubOf};
 ghost use Rattle.lines.specs.Appending.{Appended};
 ghost use Rattle.padlog.specs.Log.{Told, sheetEnd, tallyOf, lastLine, roundsOf, rounds, logOf};
 
@@ -91,23 +97,60 @@ fn last(text: &mut [u8], at: usize, t: Tally, steps: usize) -> usize
 }
 
 // The batch is pumped until it is drained or refused, and each call's events are printed behind those before.
-fn pump_all(hub: Hub, batch: &[u8], out: &mut [u8; 16384], text: &mut [u8; 559538]) -> usize
-    ensures { λ r. ⌜ Told (roundsOf rounds hub (now (batch .entry)) 0 (now (out .entry)) 0) (now (text .exit)) r ⌝ }
+fn pump_all<'s>(
+    head: Head,
+    codes: &'s [u32; 208],
+    kinds: &'s [u8; 208],
+    names: &'s [u8; 208],
+    renames: &'s [u8; 208],
+    touched: &mut [bool; 208],
+    moved: &mut [bool; 208],
+    values: &mut Values,
+    times: &mut Times,
+    marks: &mut Marks,
+    queuebytes: &mut QueueBytes,
+    queuecodes: &mut QueueCodes,
+    batch: &[u8],
+    out: &mut [u8; 16384],
+    text: &mut [u8; 559538],
+) -> usize
+    ensures { λ r. ⌜ Told (roundsOf rounds (hubOf head
+        (listed (now (codes .entry)) (now (kinds .entry)) (now (names .entry)) (now (renames .entry)))
+        (columns (now (touched .entry)) (now (moved .entry)) (now (values .entry)) (now (times .entry)) (now (marks .entry))
+        (now (queuebytes .entry)) (now (queuecodes .entry))))
+        (now (batch .entry)) 0 (now (out .entry)) 0) (now (text .exit)) r ⌝ }
 {
-    let mut h = hub;
+    let mut h = head;
     let mut place: usize = 0;
     let mut steps: usize = 0;
     let mut at: usize = 0;
     let mut left = ROUNDS;
     while 0 < left {
-        let pumped = pump::pump(h, batch, place, out, ALLOWANCE);
+        let pumped = pump_lent::pump(
+            h,
+            codes,
+            kinds,
+            names,
+            renames,
+            touched,
+            moved,
+            values,
+            times,
+            marks,
+            queuebytes,
+            queuecodes,
+            batch,
+            place,
+            out,
+            ALLOWANCE,
+        );
         let answer = pumped.answer;
         let t = tally_of(answer);
         at = lines::lines(text, at, out, t.events);
         if t.ends != GOES_ON {
             return last(text, at, t, steps);
         }
-        let next = pumped.hub;
+        let next = pumped.head;
         h = next;
         place = t.place;
         steps = steps + t.steps;
@@ -120,15 +163,69 @@ fn pump_all(hub: Hub, batch: &[u8], out: &mut [u8; 16384], text: &mut [u8; 55953
 fn log(input: &[u8], out: &mut [u8; 16384], text: &mut [u8; 559538]) -> usize
     ensures { λ r. ⌜ Told (logOf (now (input .entry)) (now (out .entry))) (now (text .exit)) r ⌝ }
 {
+    let mut codes = [0u32; 208];
+    let mut kinds = [0u8; 208];
+    let mut names = [0u8; 208];
+    let mut renames = [0u8; 208];
+    let mut touched = [false; 208];
+    let mut moved = [false; 208];
+    let mut values = [0.0f32; 1109];
+    let mut times = [0u64; 900];
+    let mut marks = [false; 627];
+    let mut queuebytes = [0u8; 192];
+    let mut queuecodes = [0u32; 64];
+    let opened = desk_lent::new_hub(
+        0.75,
+        0.5,
+        false,
+        true,
+        true,
+        &mut codes,
+        &mut kinds,
+        &mut names,
+        &mut renames,
+        &mut touched,
+        &mut moved,
+        &mut values,
+        &mut times,
+        &mut marks,
+        &mut queuebytes,
+        &mut queuecodes,
+    );
+    let fresh = opened.head;
     let end = sheet_end(input);
-    let opened = desk::new_hub(0.75, 0.5, false, true, true);
-    let hub = opened.hub;
-    let registered = desk::register(hub, &input[..end]);
+    let registered = desk_lent::register(
+        fresh,
+        &mut codes,
+        &mut kinds,
+        &mut names,
+        &mut touched,
+        &mut moved,
+        &mut values,
+        &mut marks,
+        &input[..end],
+    );
     let answer = registered.answer;
     match answer {
         RegisterAnswer::Pad(_) => {
-            let h = registered.hub;
-            pump_all(h, &input[end..], out, text)
+            let head = registered.head;
+            pump_all(
+                head,
+                &codes,
+                &kinds,
+                &names,
+                &renames,
+                &mut touched,
+                &mut moved,
+                &mut values,
+                &mut times,
+                &mut marks,
+                &mut queuebytes,
+                &mut queuecodes,
+                &input[end..],
+                out,
+                text,
+            )
         }
         RegisterAnswer::Refused(number) => {
             lines::labelled(text, 0, b"SHEET ", number as u64, NEWLINE)

@@ -1,19 +1,24 @@
 -- `pace::paced` is safe and ends: the rounds are counted down. Assumes nothing.
 use Prim.Native.Nat.{_≤_}
 use mathlib.Core.Path.{_≡_}
+use native.Mathlib.Omega.{arith}
 use lib.ListN.{length}
 use borrow.Author.Needs.{needs}
 use Rattle.pace.proofs.paced.Statement.{statement}
 use Rattle.pace.proofs.paced.Tie as tie
 
 abbrev Inv-loop : tie.InvT-loop
-Inv-loop course out₀ left₀ size end hub c₀ out left c = (end ≤ length course) × (length out ≡ length out₀)
+Inv-loop course out₀ left₀ end codes kinds names renames touched moved values times marks queuebytes queuecodes head c₀ out left c =
+    (end ≤ length course) × (length out ≡ length out₀)
 
 abbrev μ-loop : tie.MeasureT-loop
-μ-loop course out₀ left₀ size end hub c₀ out left c = left
+μ-loop course out₀ left₀ end codes kinds names renames touched moved values times marks queuebytes queuecodes head c₀ out left c =
+    left
 
-new-hub-requires : tie.Need-new-hub-requires Inv-loop μ-loop
-new-hub-requires c κs = search needs
+-- from where the arrays are lent to `play` back to where the opening is known to end inside the course
+abbrev ended : tie.After-queuecodes2 Inv-loop μ-loop → tie.After-opening-end Inv-loop μ-loop
+ended c =
+    c .before .before .before .before .before .before .before .before .before .before .before .before .before .before .before .before .before .before .before .before .before .before .before .before .before
 
 start-requires : tie.Need-start-requires Inv-loop μ-loop
 start-requires c κs = search needs
@@ -27,32 +32,35 @@ returns c = search needs
 read4-requires : tie.Need-read4-requires Inv-loop μ-loop
 read4-requires c κs = search needs
 
-read4-requires-2 : tie.Need-read4-requires-2 Inv-loop μ-loop
-read4-requires-2 c κs = search needs
+opening-end-requires : tie.Need-opening-end-requires Inv-loop μ-loop
+opening-end-requires c κs = search needs
 
-cast-least : tie.Need-cast-least Inv-loop μ-loop
-cast-least c = search needs
+settings-of-requires : tie.Need-settings-of-requires Inv-loop μ-loop
+settings-of-requires c κs = search needs
 
-sub-least : tie.Need-sub-least Inv-loop μ-loop
-sub-least c = search needs
-
-least-requires : tie.Need-least-requires Inv-loop μ-loop
-least-requires c κs = search needs
-
-add-end : tie.Need-add-end Inv-loop μ-loop
-add-end c = search needs
+new-hub-requires : tie.Need-new-hub-requires Inv-loop μ-loop
+new-hub-requires c κs = search needs
 
 sub-play : tie.Need-sub-play Inv-loop μ-loop
-sub-play c = search needs
+sub-play c =
+    let inside = ended c .opening-end .ensures in
+    search needs
 
 part-play-start : tie.Need-part-play-start Inv-loop μ-loop
-part-play-start c = search needs
+part-play-start c =
+    let inside = ended c .opening-end .ensures in
+    search needs
 
 part-play-end : tie.Need-part-play-end Inv-loop μ-loop
-part-play-end c = search needs
+part-play-end c =
+    let inside = ended c .opening-end .ensures in
+    search needs
 
 start-requires-2 : tie.Need-start-requires-2 Inv-loop μ-loop
 start-requires-2 c κs = search needs
+
+counted-requires : tie.Need-counted-requires Inv-loop μ-loop
+counted-requires c κs = search needs
 
 play-requires : tie.Need-play-requires Inv-loop μ-loop
 play-requires c κs = search needs
@@ -61,19 +69,21 @@ start-requires-3 : tie.Need-start-requires-3 Inv-loop μ-loop
 start-requires-3 c κs = search needs
 
 loop-holds : tie.Need-loop-holds Inv-loop μ-loop
-loop-holds c = search needs
+loop-holds c =
+    let inside = ended (c .before .before .before .before .before .before .before .before .before .before) .opening-end .ensures in
+    search needs
 
-sub-play-2 : tie.Need-sub-play-2 Inv-loop μ-loop
-sub-play-2 c = search needs
+sub-round : tie.Need-sub-round Inv-loop μ-loop
+sub-round c = search needs
 
-part-play-start-2 : tie.Need-part-play-start-2 Inv-loop μ-loop
-part-play-start-2 c = search needs
+part-round-start : tie.Need-part-round-start Inv-loop μ-loop
+part-round-start c = search needs
 
-part-play-end-2 : tie.Need-part-play-end-2 Inv-loop μ-loop
-part-play-end-2 c = search needs
+part-round-end : tie.Need-part-round-end Inv-loop μ-loop
+part-round-end c = search needs
 
-play-requires-2 : tie.Need-play-requires-2 Inv-loop μ-loop
-play-requires-2 c κs = search needs
+round-requires : tie.Need-round-requires Inv-loop μ-loop
+round-requires c κs = search needs
 
 sub-left : tie.Need-sub-left Inv-loop μ-loop
 sub-left c = search needs
@@ -96,27 +106,25 @@ paced-spec =
     (tie.spec
     Inv-loop
     μ-loop
-    new-hub-requires
     start-requires
     refused-requires
     returns
     read4-requires
-    read4-requires-2
-    cast-least
-    sub-least
-    least-requires
-    add-end
+    opening-end-requires
+    settings-of-requires
+    new-hub-requires
     sub-play
     part-play-start
     part-play-end
     start-requires-2
+    counted-requires
     play-requires
     start-requires-3
     loop-holds
-    sub-play-2
-    part-play-start-2
-    part-play-end-2
-    play-requires-2
+    sub-round
+    part-round-start
+    part-round-end
+    round-requires
     sub-left
     loop-less
     loop-again

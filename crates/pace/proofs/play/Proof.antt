@@ -1,5 +1,6 @@
 -- `pace::play` is safe and ends: each operation leaves fewer bytes. Assumes nothing.
 use Prim.Native.Nat.{_≤_, _-_}
+use native.Mathlib.Omega.{arith}
 use mathlib.Core.Path.{_≡_}
 use lib.ListN.{length}
 use borrow.Author.Needs.{needs}
@@ -7,10 +8,22 @@ use Rattle.pace.proofs.play.Statement.{statement}
 use Rattle.pace.proofs.play.Tie as tie
 
 abbrev Inv-loop : tie.InvT-loop
-Inv-loop operations out₀ h₀ c₀ at₀ out h c at = (at ≤ length operations) × (length out ≡ length out₀)
+Inv-loop codes₀ kinds₀ names₀ renames touched₀ moved₀ values₀ times₀ marks₀ queuebytes₀ queuecodes₀ operations out₀ h₀ c₀ at₀
+    codes kinds names touched moved values times marks queuebytes queuecodes out h c at =
+    (at ≤ length operations) × (length out ≡ length out₀)
 
 abbrev μ-loop : tie.MeasureT-loop
-μ-loop operations out₀ h₀ c₀ at₀ out h c at = length operations - at
+μ-loop codes₀ kinds₀ names₀ renames touched₀ moved₀ values₀ times₀ marks₀ queuebytes₀ queuecodes₀ operations out₀ h₀ c₀ at₀
+    codes kinds names touched moved values times marks queuebytes queuecodes out h c at =
+    length operations - at
+
+-- from the end of a turn back to where the operation is known to be whole
+abbrev whole : tie.After-c Inv-loop μ-loop → tie.Else1 Inv-loop μ-loop
+whole c =
+    c .before .before .before .before .before .before .before .before .before .before .before .before .before .before .before .before .before .before
+
+abbrev turning : tie.Else1 Inv-loop μ-loop → tie.In-loop Inv-loop μ-loop
+turning c = c .before .before
 
 loop-holds : tie.Need-loop-holds Inv-loop μ-loop
 loop-holds c = search needs
@@ -61,10 +74,14 @@ operation-requires : tie.Need-operation-requires Inv-loop μ-loop
 operation-requires c κs = search needs
 
 loop-less : tie.Need-loop-less Inv-loop μ-loop
-loop-less c = search needs
+loop-less c = omega (arith, whole c .if1 .left, turning (whole c) .loop-test .taken)
 
 loop-again : tie.Need-loop-again Inv-loop μ-loop
-loop-again c = search needs
+loop-again c =
+    let fits = whole c .if1 .left in
+    let more = turning (whole c) .loop-test .taken in
+    let held = turning (whole c) .before .loop .inv in
+    search needs
 
 same-length-2 : tie.Need-same-length-2 Inv-loop μ-loop
 same-length-2 c = search needs

@@ -1,9 +1,9 @@
--- `pace::pumped` is safe: the out buffer is lent as far as it goes. Assumes nothing.
+-- `pace::operations::pumped` is safe: the out buffer is lent as far as it goes. Assumes nothing.
 use native.Mathlib.Omega.{arith}
 use lib.ListN.{length-take}
 use borrow.Author.Needs.{needs}
-use Rattle.pace.proofs.pumped.Statement.{statement}
-use Rattle.pace.proofs.pumped.Tie as tie
+use Rattle.pace.proofs.operations.pumped.Statement.{statement}
+use Rattle.pace.proofs.operations.pumped.Tie as tie
 
 refused-requires : tie.Need-refused-requires
 refused-requires c κs = search needs
