@@ -5,6 +5,7 @@ ghost use Prim.Native.Nat.{_<_, _≤_, _/_};
 ghost use lib.ListN.{length, getD};
 ghost use Rattle.rules.specs.Repeat.{waitOf, dueOf, repeatedOf};
 ghost use Rattle.repeat.specs.Post.{Scanned};
+ghost use Rattle.repeat.specs.Run.{firstOf};
 use rules::ButtonData;
 use rules::Event;
 use rules::EventType;
@@ -121,4 +122,26 @@ pub fn first_due<'a>(
     ensures { λ r. ⌜ Scanned (now (connected .entry)) (now (touched .entry)) buttons after every clock r ⌝ }
 {
     scan(connected, touched, &buttons, after, every, clock)
+}
+
+// "Codes rising; the first due button": place order is that order. The records of one pad are a lent run, one for each of its places.
+fn scan_run(buttons: &[ButtonData], after: u64, every: u64, clock: u64) -> usize
+    requires { ⌜ 52 ≤ length (now buttons) ⌝ }
+    ensures { λ r. ⌜ r ≡ firstOf (now (buttons .entry)) after every clock ⌝ }
+{
+    let mut index: usize = 0;
+    while index < PLACES_PER_PAD {
+        if due(buttons[index], true, after, every, clock) {
+            return index;
+        }
+        index = index + 1;
+    }
+    PLACES_PER_PAD
+}
+
+// the scan over a pad's button records, which are lent to it
+pub fn first_of_pad(buttons: [ButtonData; 52], after: u64, every: u64, clock: u64) -> usize
+    ensures { λ r. ⌜ r ≡ firstOf buttons after every clock ⌝ }
+{
+    scan_run(&buttons, after, every, clock)
 }
