@@ -4,17 +4,14 @@ use lines::NEWLINE;
 use lines::SPACE;
 use rules::AxisData;
 use rules::ButtonData;
+use rules::FLAGS_PER_PAD;
 use rules::Hub;
+use rules::NOWHERE;
+use rules::PADS;
+use rules::PLACES_PER_PAD;
 ghost use Prim.Native.Nat.{_≤_};
 
-const PADS: u8 = 4;
-
-const PLACES_PER_PAD: usize = 52;
-
-const FLAGS_PER_PAD: usize = 6;
 // the place that is no pad's
-const NOWHERE: usize = 208;
-
 // The i-th place of a pad.
 fn place(p: u8, i: usize) -> usize
     ensures { λ r. ⌜ r ≤ 208 ⌝ }
@@ -56,7 +53,7 @@ fn buttons(h: Hub, text: &mut [u8], at: usize, p: u8) -> usize {
         next = button(
             text,
             next,
-            pad::bool_at(&h.touched, k),
+            pad::bool_at(&h.hasbutton, k),
             pad::code_at(&h.codes, k),
             b,
         );
@@ -75,7 +72,7 @@ fn sticks(h: Hub, text: &mut [u8], at: usize, p: u8) -> usize {
         next = stick(
             text,
             next,
-            pad::bool_at(&h.moved, k),
+            pad::bool_at(&h.hasaxis, k),
             pad::code_at(&h.codes, k),
             a,
         );
@@ -103,7 +100,7 @@ fn flags(flags: &[bool; 24], text: &mut [u8], at: usize, p: u8) -> usize {
 // The present hats: a rename's until the next Connected.
 fn hats(h: Hub, p: u8) -> u8 {
     if pad::pad_bool(&h.renamed, p) {
-        return pad::pad_number(&h.rehats, p);
+        return pad::pad_number(&h.newhats, p);
     }
     pad::pad_number(&h.hats, p)
 }

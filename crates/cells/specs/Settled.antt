@@ -81,12 +81,12 @@ button-alone false e h = refl
 -- ---- the state after an event whose code stands at k
 
 pub record Settled
-    (touched moved : List Bool) (vs : List Float) (ts : List ℕ) (ms : List Bool) (k : ℕ) (on : Bool) (e : Event) (counter : ℕ) (touched' moved' : List Bool)
+    (hasbutton hasaxis : List Bool) (vs : List Float) (ts : List ℕ) (ms : List Bool) (k : ℕ) (on : Bool) (e : Event) (counter : ℕ) (hasbutton' hasaxis' : List Bool)
     (vs' : List Float) (ts' : List ℕ) (ms' : List Bool) :
     Type 0 where
-  pub touched-is : touched' ≡ set touched k (getD touched k false || (on && writesButton e))
-  pub moved-is : moved' ≡ set moved k (getD moved k false || (on && writesAxis e))
-  pub buttons : buttonsOf vs' ts' ms' ≡ set (buttonsOf vs ts ms) k (buttonLeft on e (getD touched k false) (getD (buttonsOf vs ts ms) k pastButton) counter)
+  pub hasbutton-is : hasbutton' ≡ set hasbutton k (getD hasbutton k false || (on && writesButton e))
+  pub hasaxis-is : hasaxis' ≡ set hasaxis k (getD hasaxis k false || (on && writesAxis e))
+  pub buttons : buttonsOf vs' ts' ms' ≡ set (buttonsOf vs ts ms) k (buttonLeft on e (getD hasbutton k false) (getD (buttonsOf vs ts ms) k pastButton) counter)
   pub axes : axesOf vs' ts' ≡ set (axesOf vs ts) k (axisLeft on e (getD (axesOf vs ts) k pastAxis) counter)
   pub elements : elementsOf vs' ms' ≡ elementsOf vs ms
   pub slots : (bs cs : List ℕ) → slotsOf vs' ts' bs cs ≡ slotsOf vs ts bs cs
@@ -115,34 +115,34 @@ axes-same axes k on e counter none =
 
 -- ---- what the code leaves: nothing written, a button record, an axis record
 
-module _ {touched moved : List Bool} {vs : List Float} {ts : List ℕ} {ms : List Bool} {k : ℕ} {on : Bool} {e : Event} {counter : ℕ} where
-  pub settled-none : (on && writesButton e) ≡ false → (on && writesAxis e) ≡ false → Settled touched moved vs ts ms k on e counter touched moved vs ts ms
+module _ {hasbutton hasaxis : List Bool} {vs : List Float} {ts : List ℕ} {ms : List Bool} {k : ℕ} {on : Bool} {e : Event} {counter : ℕ} where
+  pub settled-none : (on && writesButton e) ≡ false → (on && writesAxis e) ≡ false → Settled hasbutton hasaxis vs ts ms k on e counter hasbutton hasaxis vs ts ms
   settled-none no-button no-axis =
       record {
-        touched-is = mark-same touched k on (writesButton e) no-button;
-        moved-is = mark-same moved k on (writesAxis e) no-axis;
-        buttons = buttons-same (buttonsOf vs ts ms) k on e (getD touched k false) counter no-button;
+        hasbutton-is = mark-same hasbutton k on (writesButton e) no-button;
+        hasaxis-is = mark-same hasaxis k on (writesAxis e) no-axis;
+        buttons = buttons-same (buttonsOf vs ts ms) k on e (getD hasbutton k false) counter no-button;
         axes = axes-same (axesOf vs ts) k on e counter no-axis;
         elements = refl;
         slots = λ bs cs. refl;
       }
 
   pub settled-button :
-      {touched' : List Bool} {vs' : List Float} {ts' : List ℕ} {ms' : List Bool} {known writes : Bool} {b nb : ButtonData} →
+      {hasbutton' : List Bool} {vs' : List Float} {ts' : List ℕ} {ms' : List Bool} {known writes : Bool} {b nb : ButtonData} →
       on ≡ true →
       writes ≡ writesButton e →
       writes ≡ true →
-      known ≡ getD touched k false →
+      known ≡ getD hasbutton k false →
       b ≡ getD (buttonsOf vs ts ms) k pastButton →
       nb ≡ buttonAfter e known b counter →
       ButtonPut vs ts ms k nb vs' ts' ms' →
-      touched' ≡ set touched k true →
-      Settled touched moved vs ts ms k on e counter touched' moved vs' ts' ms'
+      hasbutton' ≡ set hasbutton k true →
+      Settled hasbutton hasaxis vs ts ms k on e counter hasbutton' hasaxis vs' ts' ms'
   settled-button eon ew does ek eb enb p et =
       let no-axis : (on && writesAxis e) ≡ false = button-alone on e (sym ew ∙ does) in
       record {
-        touched-is = et ∙ mark-set touched k eon (sym ew ∙ does);
-        moved-is = mark-same moved k on (writesAxis e) no-axis;
+        hasbutton-is = et ∙ mark-set hasbutton k eon (sym ew ∙ does);
+        hasaxis-is = mark-same hasaxis k on (writesAxis e) no-axis;
         buttons = p .buttons ∙ rw (eon, enb, eb, ek);
         axes = p .axes ∙ axes-same (axesOf vs ts) k on e counter no-axis;
         elements = p .elements;
@@ -150,7 +150,7 @@ module _ {touched moved : List Bool} {vs : List Float} {ts : List ℕ} {ms : Lis
       }
 
   pub settled-axis :
-      {moved' : List Bool} {vs' : List Float} {ts' : List ℕ} {writes moves : Bool} {a na : AxisData} →
+      {hasaxis' : List Bool} {vs' : List Float} {ts' : List ℕ} {writes moves : Bool} {a na : AxisData} →
       on ≡ true →
       writes ≡ writesButton e →
       writes ≡ false →
@@ -159,14 +159,14 @@ module _ {touched moved : List Bool} {vs : List Float} {ts : List ℕ} {ms : Lis
       a ≡ getD (axesOf vs ts) k pastAxis →
       na ≡ axisAfter e a counter →
       AxisPut vs ts k na vs' ts' →
-      moved' ≡ set moved k true →
-      Settled touched moved vs ts ms k on e counter touched moved' vs' ts' ms
+      hasaxis' ≡ set hasaxis k true →
+      Settled hasbutton hasaxis vs ts ms k on e counter hasbutton hasaxis' vs' ts' ms
   settled-axis eon ew none em does ea ena p et =
       let no-button : (on && writesButton e) ≡ false = rw (eon, ← ew) none in
       record {
-        touched-is = mark-same touched k on (writesButton e) no-button;
-        moved-is = et ∙ mark-set moved k eon (sym em ∙ does);
-        buttons = p .buttons ms ∙ buttons-same (buttonsOf vs ts ms) k on e (getD touched k false) counter no-button;
+        hasbutton-is = mark-same hasbutton k on (writesButton e) no-button;
+        hasaxis-is = et ∙ mark-set hasaxis k eon (sym em ∙ does);
+        buttons = p .buttons ms ∙ buttons-same (buttonsOf vs ts ms) k on e (getD hasbutton k false) counter no-button;
         axes = p .axes ∙ rw (eon, ena, ea);
         elements = p .elements ms;
         slots = p .slots;
@@ -175,9 +175,9 @@ module _ {touched moved : List Bool} {vs : List Float} {ts : List ℕ} {ms : Lis
 -- ---- the hub: the law book's after the event
 
 pub settled-hub :
-    (d : Head) (s : Listed) (bytes codes : List ℕ) (on : Bool) (e : Event) {touched moved touched' moved' : List Bool} {vs vs' : List Float} {ts ts' : List ℕ}
+    (d : Head) (s : Listed) (bytes codes : List ℕ) (on : Bool) (e : Event) {hasbutton hasaxis hasbutton' hasaxis' : List Bool} {vs vs' : List Float} {ts ts' : List ℕ}
     {ms ms' : List Bool} →
-    Settled touched moved vs ts ms (placeOf (s .codes) (e .pad) (codeOf e)) on e (d .counter) touched' moved' vs' ts' ms' →
-    hubOf d s (columns touched' moved' vs' ts' ms' bytes codes) ≡ updatedOf on (hubOf d s (columns touched moved vs ts ms bytes codes)) e
+    Settled hasbutton hasaxis vs ts ms (placeOf (s .codes) (e .pad) (codeOf e)) on e (d .counter) hasbutton' hasaxis' vs' ts' ms' →
+    hubOf d s (columns hasbutton' hasaxis' vs' ts' ms' bytes codes) ≡ updatedOf on (hubOf d s (columns hasbutton hasaxis vs ts ms bytes codes)) e
 unfolding updatedOf updatedAt
-settled-hub d s bytes codes on e p = rw (p .touched-is, p .moved-is, p .buttons, p .axes, p .elements, p .slots bytes codes)
+settled-hub d s bytes codes on e p = rw (p .hasbutton-is, p .hasaxis-is, p .buttons, p .axes, p .elements, p .slots bytes codes)

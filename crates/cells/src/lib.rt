@@ -8,18 +8,18 @@ ghost use Rattle.rules.specs.Places.{placeOf};
 ghost use Rattle.rules.specs.Events.{codeOf};
 ghost use Rattle.rules.specs.Hub.{pastElement, pastButton, pastAxis};
 ghost use Rattle.pad.specs.Found.{Placed};
-ghost use Rattle.gather.specs.Sight.{viewBy};
+ghost use Rattle.gather.specs.EventPlaces.{viewBy};
 ghost use Rattle.columns.specs.Columns.{elementsOf, buttonsOf, axesOf};
 ghost use Rattle.cells.specs.Settled.{Settled};
 use columns::Marks;
 use columns::Times;
 use columns::Values;
-use gather::Sight;
+use gather::EventPlaces;
 use rules::Event;
 use rules::View;
 
 // The view, with what stands at the places: the own element and records, the two directions' button records, the partner's records.
-pub fn view_in(values: &Values, times: &Times, marks: &Marks, s: Sight) -> View
+pub fn view_in(values: &Values, times: &Times, marks: &Marks, s: EventPlaces) -> View
     requires { ⌜ (s .own .place ≤ nowhere) × (s .positive .place ≤ nowhere) × (s .negative .place ≤ nowhere) × (s .partner .place ≤ nowhere) ⌝ }
     ensures { λ r. ⌜ r ≡ viewBy s (getD (elementsOf (now (values .entry)) (now (marks .entry))) (s .own .place) pastElement)
         (getD (buttonsOf (now (values .entry)) (now (times .entry)) (now (marks .entry))) (s .own .place) pastButton)
@@ -53,8 +53,8 @@ pub fn view_in(values: &Values, times: &Times, marks: &Marks, s: Sight) -> View
 // stands, which is most often the event's place too.
 pub fn settle(
     codes: &[u32; 208],
-    touched: &mut [bool; 208],
-    moved: &mut [bool; 208],
+    hasbutton: &mut [bool; 208],
+    hasaxis: &mut [bool; 208],
     values: &mut Values,
     times: &mut Times,
     marks: &mut Marks,
@@ -66,16 +66,16 @@ pub fn settle(
     last: usize,
 )
     requires { ⌜ Placed (now codes) lastpad lastcode last ⌝ }
-    ensures { λ _. ⌜ Settled (now (touched .entry)) (now (moved .entry)) (now (values .entry)) (now (times .entry)) (now (marks .entry))
+    ensures { λ _. ⌜ Settled (now (hasbutton .entry)) (now (hasaxis .entry)) (now (values .entry)) (now (times .entry)) (now (marks .entry))
         (placeOf (now (codes .entry)) (e .pad) (codeOf e)) on e counter
-        (now (touched .exit)) (now (moved .exit)) (now (values .exit)) (now (times .exit)) (now (marks .exit)) ⌝ }
+        (now (hasbutton .exit)) (now (hasaxis .exit)) (now (values .exit)) (now (times .exit)) (now (marks .exit)) ⌝ }
 {
     if !on {
         return;
     }
     let k = gather::place_again(codes, e.pad, events::code_of(e), lastpad, lastcode, last);
     if state::writes_button(e) {
-        let known = pad::bool_at(touched, k);
+        let known = pad::bool_at(hasbutton, k);
         let b = columns::button_at(values, times, marks, k);
         columns::put_button(
             values,
@@ -84,7 +84,7 @@ pub fn settle(
             k,
             state::button_after(e, known, b, counter),
         );
-        pad::mark(touched, k, true);
+        pad::mark(hasbutton, k, true);
         return;
     }
     if !state::writes_axis(e) {
@@ -92,5 +92,5 @@ pub fn settle(
     }
     let a = columns::axis_at(values, times, k);
     columns::put_axis(values, times, k, state::axis_after(e, a, counter));
-    pad::mark(moved, k, true);
+    pad::mark(hasaxis, k, true);
 }

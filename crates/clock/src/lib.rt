@@ -4,9 +4,9 @@ ghost use mathlib.Core.Path.{_≡_};
 ghost use Rattle.rules.specs.Calls.{incOf, resetOf};
 ghost use Rattle.rules.specs.Repeat.{repeatOf};
 use rules::Hub;
+use rules::NOWHERE;
+use rules::PLACES_PER_PAD;
 use rules::RepeatAnswer;
-
-const PLACES_PER_PAD: usize = 52;
 
 // ---- the counter: "The counter goes from 2^62-1 to 0"
 
@@ -35,7 +35,7 @@ pub fn reset_counter(h: Hub) -> Hub
 
 // ---- repeat: 15, 12
 
-// The first due button of the connected pads, with the clock as input: 000's `Repeat`.
+// The first due button of the connected pads, with the clock as input: gilrs's `Repeat`.
 pub fn repeat(h: Hub, after: u64, every: u64, clock: u64) -> RepeatAnswer
     ensures { λ r. ⌜ r ≡ repeatOf h after every clock ⌝ }
 {
@@ -44,15 +44,15 @@ pub fn repeat(h: Hub, after: u64, every: u64, clock: u64) -> RepeatAnswer
         return RepeatAnswer::Refused(refusal);
     }
     let buttons = h.buttons;
-    let place = repeat::first_due(&h.connected, &h.touched, buttons, after, every, clock);
-    if pad::NOWHERE <= place {
+    let place = repeat::first_due(&h.connected, &h.hasbutton, buttons, after, every, clock);
+    if NOWHERE <= place {
         return RepeatAnswer::Quiet;
     }
     let p = (place / PLACES_PER_PAD) as u8;
     let name = gather::present_name(&h.names, &h.renames, &h.renamed, p, place);
     let code = pad::code_at(&h.codes, place);
-    let touched = pad::bool_at(&h.touched, place);
+    let hasbutton = pad::bool_at(&h.hasbutton, place);
     let b = h.buttons[place];
-    let e = repeat::repeated(p, name, code, b, touched, after, every, clock);
+    let e = repeat::repeated(p, name, code, b, hasbutton, after, every, clock);
     RepeatAnswer::Due(e)
 }

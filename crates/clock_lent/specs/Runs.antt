@@ -27,8 +27,8 @@ due-record false b after every now = refl
 
 -- the records of the places from start on
 abbrev pub Gathered : List Bool → List ButtonData → ℕ → List ButtonData → Type 0
-Gathered touched buttons start run =
-    (i : ℕ) → i < placesPerPad → getD run i pastButton ≡ recordOf (getD touched (start + i) false) (getD buttons (start + i) pastButton)
+Gathered hasbutton buttons start run =
+    (i : ℕ) → i < placesPerPad → getD run i pastButton ≡ recordOf (getD hasbutton (start + i) false) (getD buttons (start + i) pastButton)
 
 -- the run with one record more
 module _ (f : ℕ → ButtonData) (run : List ButtonData) (i : ℕ) (b : ButtonData) (room : i < length run) (is : b ≡ f i) where
@@ -44,17 +44,17 @@ module _ (f : ℕ → ButtonData) (run : List ButtonData) (i : ℕ) (b : ButtonD
       ((j : ℕ) → j < i → getD run j pastButton ≡ f j) → (j : ℕ) → j < i + 1 → getD (set run i b) j pastButton ≡ f j
   gathered-more before j l = one-more j (eqb j i) refl (before j) l
 
-module _ (connected touched : List Bool) (buttons : List ButtonData) (after every now : ℕ) where
+module _ (connected hasbutton : List Bool) (buttons : List ButtonData) (after every now : ℕ) where
   -- whether a record is due, and whether its pad is connected too
   abbrev due-at : ℕ → Bool
-  due-at k = dueOf (getD touched k false) (getD buttons k pastButton) after every now
+  due-at k = dueOf (getD hasbutton k false) (getD buttons k pastButton) after every now
 
   abbrev test : ℕ → Bool
   test k = getD connected (k / placesPerPad) false && due-at k
 
   -- the first due of the n places from k on
   abbrev pub first : ℕ → ℕ → ℕ
-  first n k = firstDue connected touched buttons after every now n k
+  first n k = firstDue connected hasbutton buttons after every now n k
 
   hit : (n k : ℕ) → test k ≡ true → first (suc n) k ≡ k
   unfolding firstDue
@@ -149,12 +149,12 @@ module _ (connected touched : List Bool) (buttons : List ButtonData) (after ever
         sym (rw (sym start) (apart off placesPerPad 0 (omega arith)))
 
     -- connected: the place of what its run gives
-    module _ (run : List ButtonData) (all : Gathered touched buttons (placesPerPad * p) run) (joined : getD connected p false ≡ true) where
+    module _ (run : List ButtonData) (all : Gathered hasbutton buttons (placesPerPad * p) run) (joined : getD connected p false ≡ true) where
       abbrev place : ℕ → ℕ
       place i = cond (ltb i placesPerPad) (placesPerPad * p + i) nowhere
 
       same-test : (i : ℕ) → i < placesPerPad → test (placesPerPad * p + i) ≡ dueOf true (getD run i pastButton) after every now
-      same-test i l = rw (pad-of i l, joined, all i l, due-record (getD touched (placesPerPad * p + i) false) (getD buttons (placesPerPad * p + i) pastButton) after every now)
+      same-test i l = rw (pad-of i l, joined, all i l, due-record (getD hasbutton (placesPerPad * p + i) false) (getD buttons (placesPerPad * p + i) pastButton) after every now)
 
       along-by : (n i : ℕ) (due : Bool) → dueOf true (getD run i pastButton) after every now ≡ due → i < placesPerPad
           → first n (placesPerPad * p + (i + 1)) ≡ place (firstFrom run after every now n (i + 1))

@@ -18,11 +18,11 @@ use columns::Times;
 use columns::Values;
 use hub::Head;
 use rules::ButtonData;
+use rules::NOWHERE;
+use rules::PLACES_PER_PAD;
 use rules::RepeatAnswer;
 
 const PADS: usize = 4;
-
-const PLACES_PER_PAD: usize = 52;
 
 // ---- the counter: "The counter goes from 2^62-1 to 0"
 
@@ -64,17 +64,17 @@ fn blank() -> ButtonData
 
 // A place's record for its pad's run: blank where it has none, and a blank record is never due.
 fn record_at(
-    touched: &[bool; 208],
+    hasbutton: &[bool; 208],
     values: &Values,
     times: &Times,
     marks: &Marks,
     place: usize,
 ) -> ButtonData
     requires { ⌜ place ≤ nowhere ⌝ }
-    ensures { λ r. ⌜ r ≡ recordOf (getD (now (touched .entry)) place false)
+    ensures { λ r. ⌜ r ≡ recordOf (getD (now (hasbutton .entry)) place false)
         (getD (buttonsOf (now (values .entry)) (now (times .entry)) (now (marks .entry))) place pastButton) ⌝ }
 {
-    if pad::bool_at(touched, place) {
+    if pad::bool_at(hasbutton, place) {
         return columns::button_at(values, times, marks, place);
     }
     blank()
@@ -82,19 +82,19 @@ fn record_at(
 
 // A pad's records, in place order: its places begin at `start`.
 fn gather_run(
-    touched: &[bool; 208],
+    hasbutton: &[bool; 208],
     values: &Values,
     times: &Times,
     marks: &Marks,
     start: usize,
 ) -> [ButtonData; 52]
     requires { ⌜ start + 52 ≤ nowhere ⌝ }
-    ensures { λ r. ⌜ Gathered (now (touched .entry)) (buttonsOf (now (values .entry)) (now (times .entry)) (now (marks .entry))) start r ⌝ }
+    ensures { λ r. ⌜ Gathered (now (hasbutton .entry)) (buttonsOf (now (values .entry)) (now (times .entry)) (now (marks .entry))) start r ⌝ }
 {
     let mut run = [blank(); 52];
     let mut index: usize = 0;
     while index < PLACES_PER_PAD {
-        run[index] = record_at(touched, values, times, marks, start + index);
+        run[index] = record_at(hasbutton, values, times, marks, start + index);
         index = index + 1;
     }
     run
@@ -103,7 +103,7 @@ fn gather_run(
 // The first due place of pad p's, or 208: of a pad that is not connected none is.
 fn first_on(
     connected: &[bool; 4],
-    touched: &[bool; 208],
+    hasbutton: &[bool; 208],
     values: &Values,
     times: &Times,
     marks: &Marks,
@@ -113,17 +113,17 @@ fn first_on(
     clock: u64,
 ) -> usize
     requires { ⌜ p < 4 ⌝ }
-    ensures { λ r. ⌜ r ≡ firstDue (now (connected .entry)) (now (touched .entry))
+    ensures { λ r. ⌜ r ≡ firstDue (now (connected .entry)) (now (hasbutton .entry))
         (buttonsOf (now (values .entry)) (now (times .entry)) (now (marks .entry))) after every clock 52 (52 * p) ⌝ }
 {
     if !connected[p] {
-        return pad::NOWHERE;
+        return NOWHERE;
     }
     let start = PLACES_PER_PAD * p;
-    let run = gather_run(touched, values, times, marks, start);
+    let run = gather_run(hasbutton, values, times, marks, start);
     let index = repeat::first_of_pad(run, after, every, clock);
     if PLACES_PER_PAD <= index {
-        return pad::NOWHERE;
+        return NOWHERE;
     }
     start + index
 }
@@ -131,7 +131,7 @@ fn first_on(
 // "Connected pads by number, codes rising; the first due button": its place, or 208.
 fn first_place(
     connected: &[bool; 4],
-    touched: &[bool; 208],
+    hasbutton: &[bool; 208],
     values: &Values,
     times: &Times,
     marks: &Marks,
@@ -139,14 +139,14 @@ fn first_place(
     every: u64,
     clock: u64,
 ) -> usize
-    ensures { λ r. ⌜ r ≡ firstDue (now (connected .entry)) (now (touched .entry))
+    ensures { λ r. ⌜ r ≡ firstDue (now (connected .entry)) (now (hasbutton .entry))
         (buttonsOf (now (values .entry)) (now (times .entry)) (now (marks .entry))) after every clock nowhere 0 ⌝ }
 {
     let mut p: usize = 0;
     while p < PADS {
         let place = first_on(
             connected,
-            touched,
+            hasbutton,
             values,
             times,
             marks,
@@ -155,21 +155,21 @@ fn first_place(
             every,
             clock,
         );
-        if place < pad::NOWHERE {
+        if place < NOWHERE {
             return place;
         }
         p = p + 1;
     }
-    pad::NOWHERE
+    NOWHERE
 }
 
-// The first due button of the connected pads, with the clock as input: 000's `Repeat`.
+// The first due button of the connected pads, with the clock as input: gilrs's `Repeat`.
 pub fn repeat<'s>(
     head: Head,
     codes: &[u32; 208],
     names: &'s [u8; 208],
     renames: &'s [u8; 208],
-    touched: &[bool; 208],
+    hasbutton: &[bool; 208],
     values: &Values,
     times: &Times,
     marks: &Marks,
@@ -177,9 +177,9 @@ pub fn repeat<'s>(
     every: u64,
     clock: u64,
 ) -> RepeatAnswer
-    ensures { λ r. ⌜ ((kinds queuebytes queuecodes : List ℕ) (moved : List Bool) →
+    ensures { λ r. ⌜ ((kinds queuebytes queuecodes : List ℕ) (hasaxis : List Bool) →
         r ≡ repeatOf (hubOf head (listed (now (codes .entry)) kinds (now (names .entry)) (now (renames .entry)))
-        (columns (now (touched .entry)) moved (now (values .entry)) (now (times .entry)) (now (marks .entry)) queuebytes queuecodes))
+        (columns (now (hasbutton .entry)) hasaxis (now (values .entry)) (now (times .entry)) (now (marks .entry)) queuebytes queuecodes))
         after every clock) ⌝ }
 {
     let refusal = refusals::repeat_refusal(after, every, clock);
@@ -188,7 +188,7 @@ pub fn repeat<'s>(
     }
     let place = first_place(
         &head.connected,
-        touched,
+        hasbutton,
         values,
         times,
         marks,
@@ -196,13 +196,13 @@ pub fn repeat<'s>(
         every,
         clock,
     );
-    if pad::NOWHERE <= place {
+    if NOWHERE <= place {
         return RepeatAnswer::Quiet;
     }
     let p = (place / PLACES_PER_PAD) as u8;
     let name = gather::present_name(names, renames, &head.renamed, p, place);
     let code = pad::code_at(codes, place);
-    let known = pad::bool_at(touched, place);
+    let known = pad::bool_at(hasbutton, place);
     let b = columns::button_at(values, times, marks, place);
     let e = repeat::repeated(p, name, code, b, known, after, every, clock);
     RepeatAnswer::Due(e)

@@ -3,6 +3,9 @@
 use libc::STDIN_FILENO;
 use libc::STDOUT_FILENO;
 use rules::EventRead;
+use rules::MALFORMED;
+use rules::PADS;
+use rules::PLACES_PER_PAD;
 
 // a case opens with its kind and the length of the rest in 4 bytes
 const OPENING: usize = 5;
@@ -12,12 +15,6 @@ const SHEET: u8 = 1;
 const RECORD: u8 = 2;
 
 const INSERTED: u8 = 4;
-
-const PADS: u8 = 4;
-
-const PLACES_PER_PAD: usize = 52;
-
-const MALFORMED: u8 = 8;
 
 // The pads of a case, their places' codes and kinds, and where what they meet begins.
 struct Met {
@@ -104,7 +101,7 @@ fn pads_of(case: &[u8]) -> Met {
 // ---- what they meet: 8, 6, 9, 10, 11, 12, 13 where they apply
 
 fn record_refusal(m: Met, record: &[u8]) -> u8 {
-    let looked = wire::look(record, 0, 0);
+    let looked = wire::next_record(record, 0, 0);
     let raw = looked.raw;
     let place = pad::place_of(&m.codes, raw.pad, raw.code);
     refusals::record_refusal(looked, m.pads, pad::kind_at(&m.kinds, place))

@@ -1,5 +1,5 @@
 -- Demand 3 for buttons and triggers: "when none wait, every button, trigger .. reads as 01's history rule says, which knows no queue". Whatever was played, by
--- the queries that an overlay calls. Assumes nothing.
+-- the queries that an overlay calls.
 use Prim.Native.Nat.{ℕ, _<_}
 use mathlib.Core.Bool.{Bool, true, false, not, _&&_, _||_}
 use mathlib.Core.List.{List, []}
@@ -16,9 +16,9 @@ use Rattle.rules.specs.declared.TruthAnswer.the-variants as truthAnswer
 use Rattle.rules.specs.declared.ValueAnswer.the-variants as valueAnswer
 use Rattle.rules.specs.Names.{padLimit, nowhere, noName, isAxis, isButton, isHat, dpadRight, unknownAxis, dpadX, positiveCode, negativeCode, codeUp, codeDown, codeLeft, codeRight}
 use Rattle.rules.specs.Sheets.{elementButton, elementAxis}
-use Rattle.rules.specs.Refusals.{standsOf, unlessFits}
+use Rattle.rules.specs.Refusals.{isRegistered, unlessFits}
 use Rattle.rules.specs.State.{readPressed, readValue}
-use Rattle.rules.specs.Hub.{placeIn, kindAt, elementAt, pressedAt, movedAt, valueAt}
+use Rattle.rules.specs.Hub.{placeIn, kindAt, elementAt, pressedAt, hasAxisAt, valueAt}
 use Rattle.rules.specs.Queries.{padRefusal, truthBy, valueBy, pressedByCode, valueByCode}
 use Rattle.promises.specs.Waiting.{waitingList}
 use Rattle.registered.specs.Pads.{Desk, reached-desk, direction-kept}
@@ -81,12 +81,12 @@ unfolding valueByCode
 asked-value h p c = refl
 
 -- of a registered pad they are not refused
-pub standing-truth : (pads p : ℕ) (b : Bool) → p < pads → p < padLimit → truthBy (unlessFits (standsOf pads p) 6) b ≡ truthAnswer.Is b
-unfolding standsOf
+pub standing-truth : (pads p : ℕ) (b : Bool) → p < pads → p < padLimit → truthBy (unlessFits (isRegistered pads p) 6) b ≡ truthAnswer.Is b
+unfolding isRegistered
 standing-truth pads p b old few = rw (lt-ltb p pads old, lt-ltb p padLimit few)
 
-pub standing-value : (pads p : ℕ) (v : Float) → p < pads → p < padLimit → valueBy (unlessFits (standsOf pads p) 6) true v ≡ valueAnswer.Value v
-unfolding standsOf
+pub standing-value : (pads p : ℕ) (v : Float) → p < pads → p < padLimit → valueBy (unlessFits (isRegistered pads p) 6) true v ≡ valueAnswer.Value v
+unfolding isRegistered
 standing-value pads p v old few = rw (lt-ltb p pads old, lt-ltb p padLimit few)
 
 -- they read the button record, where there is no axis record
@@ -94,7 +94,7 @@ pub cell-pressed : (h : Hub) (k : ℕ) → pressedAt h k ≡ cellPressed (cellAt
 unfolding pressedAt readPressed cellAt
 cell-pressed h k = refl
 
-pub cell-value : (h : Hub) (k : ℕ) → movedAt h k ≡ false → valueAt h k ≡ cellValue (cellAt h k)
+pub cell-value : (h : Hub) (k : ℕ) → hasAxisAt h k ≡ false → valueAt h k ≡ cellValue (cellAt h k)
 unfolding valueAt readValue cellAt
 cell-value h k still = rw still
 

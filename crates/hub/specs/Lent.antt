@@ -25,8 +25,8 @@ pub record Listed : Type 0 where
 
 -- marks, records and queue: what steps change
 pub record Columns : Type 0 where
-  pub touched : List Bool
-  pub moved : List Bool
+  pub hasbutton : List Bool
+  pub hasaxis : List Bool
   pub values : List Float
   pub times : List ℕ
   pub marks : List Bool
@@ -37,10 +37,10 @@ abbrev pub listed : List ℕ → List ℕ → List ℕ → List ℕ → Listed
 listed codes kinds names renames = record { codes = codes; kinds = kinds; names = names; renames = renames }
 
 abbrev pub columns : List Bool → List Bool → List Float → List ℕ → List Bool → List ℕ → List ℕ → Columns
-columns touched moved values times marks queuebytes queuecodes =
+columns hasbutton hasaxis values times marks queuebytes queuecodes =
     record {
-      touched = touched;
-      moved = moved;
+      hasbutton = hasbutton;
+      hasaxis = hasaxis;
       values = values;
       times = times;
       marks = marks;
@@ -65,16 +65,16 @@ hubOf d s t =
       hats = d .hats;
       converts = d .converts;
       renamed = d .renamed;
-      rehats = d .rehats;
-      reconverts = d .reconverts;
+      newhats = d .newhats;
+      newconverts = d .newconverts;
       codes = s .codes;
       kinds = s .kinds;
       names = s .names;
       renames = s .renames;
       elements = elementsOf (t .values) (t .marks);
-      touched = t .touched;
+      hasbutton = t .hasbutton;
       buttons = buttonsOf (t .values) (t .times) (t .marks);
-      moved = t .moved;
+      hasaxis = t .hasaxis;
       axes = axesOf (t .values) (t .times);
       flags = d .flags;
       queue = slotsOf (t .values) (t .times) (t .queuebytes) (t .queuecodes);

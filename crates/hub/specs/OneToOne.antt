@@ -25,8 +25,8 @@ headIn h =
       hats = h .hats;
       converts = h .converts;
       renamed = h .renamed;
-      rehats = h .rehats;
-      reconverts = h .reconverts;
+      newhats = h .newhats;
+      newconverts = h .newconverts;
       flags = h .flags;
       head = h .head;
       waiting = h .waiting;
@@ -38,8 +38,8 @@ listedIn h = record { codes = h .codes; kinds = h .kinds; names = h .names; rena
 abbrev columnsIn : Hub → Columns
 columnsIn h =
     record {
-      touched = h .touched;
-      moved = h .moved;
+      hasbutton = h .hasbutton;
+      hasaxis = h .hasaxis;
       values = packedValues (h .buttons) (h .axes) (h .elements) (h .queue);
       times = packedTimes (h .buttons) (h .axes) (h .queue);
       marks = packedMarks (h .buttons) (h .elements);

@@ -45,8 +45,8 @@ fn play(
     kinds: &mut [u8; 208],
     names: &mut [u8; 208],
     renames: &[u8; 208],
-    touched: &mut [bool; 208],
-    moved: &mut [bool; 208],
+    hasbutton: &mut [bool; 208],
+    hasaxis: &mut [bool; 208],
     values: &mut Values,
     times: &mut Times,
     marks: &mut Marks,
@@ -72,8 +72,8 @@ fn play(
             kinds,
             names,
             renames,
-            touched,
-            moved,
+            hasbutton,
+            hasaxis,
             values,
             times,
             marks,
@@ -99,8 +99,8 @@ fn round(
     kinds: &[u8; 208],
     names: &[u8; 208],
     renames: &[u8; 208],
-    touched: &[bool; 208],
-    moved: &[bool; 208],
+    hasbutton: &[bool; 208],
+    hasaxis: &[bool; 208],
     values: &Values,
     times: &Times,
     marks: &Marks,
@@ -113,8 +113,8 @@ fn round(
     let mut own_codes = *codes;
     let mut own_kinds = *kinds;
     let mut own_names = *names;
-    let mut own_touched = *touched;
-    let mut own_moved = *moved;
+    let mut own_touched = *hasbutton;
+    let mut own_moved = *hasaxis;
     let mut own_values = *values;
     let mut own_times = *times;
     let mut own_marks = *marks;
@@ -206,8 +206,8 @@ fn paced(course: &[u8], out: &mut [u8]) -> Counts {
     let mut kinds = [0u8; 208];
     let mut names = [0u8; 208];
     let mut renames = [0u8; 208];
-    let mut touched = [false; 208];
-    let mut moved = [false; 208];
+    let mut hasbutton = [false; 208];
+    let mut hasaxis = [false; 208];
     let mut values = [0.0f32; 1109];
     let mut times = [0u64; 900];
     let mut marks = [false; 627];
@@ -223,8 +223,8 @@ fn paced(course: &[u8], out: &mut [u8]) -> Counts {
         &mut kinds,
         &mut names,
         &mut renames,
-        &mut touched,
-        &mut moved,
+        &mut hasbutton,
+        &mut hasaxis,
         &mut values,
         &mut times,
         &mut marks,
@@ -239,8 +239,8 @@ fn paced(course: &[u8], out: &mut [u8]) -> Counts {
         &mut kinds,
         &mut names,
         &renames,
-        &mut touched,
-        &mut moved,
+        &mut hasbutton,
+        &mut hasaxis,
         &mut values,
         &mut times,
         &mut marks,
@@ -260,8 +260,8 @@ fn paced(course: &[u8], out: &mut [u8]) -> Counts {
             &kinds,
             &names,
             &renames,
-            &touched,
-            &moved,
+            &hasbutton,
+            &hasaxis,
             &values,
             &times,
             &marks,

@@ -71,8 +71,8 @@ fn registered(
     codes: &mut [u32; 208],
     kinds: &mut [u8; 208],
     names: &mut [u8; 208],
-    touched: &mut [bool; 208],
-    moved: &mut [bool; 208],
+    hasbutton: &mut [bool; 208],
+    hasaxis: &mut [bool; 208],
     values: &mut Values,
     marks: &mut Marks,
     sheet: &[u8],
@@ -83,8 +83,8 @@ fn registered(
         codes,
         kinds,
         names,
-        touched,
-        moved,
+        hasbutton,
+        hasaxis,
         values,
         marks,
         sheet,
@@ -103,8 +103,8 @@ fn pumped<'s>(
     kinds: &'s [u8; 208],
     names: &'s [u8; 208],
     renames: &'s [u8; 208],
-    touched: &mut [bool; 208],
-    moved: &mut [bool; 208],
+    hasbutton: &mut [bool; 208],
+    hasaxis: &mut [bool; 208],
     values: &mut Values,
     times: &mut Times,
     marks: &mut Marks,
@@ -126,8 +126,8 @@ fn pumped<'s>(
         kinds,
         names,
         renames,
-        touched,
-        moved,
+        hasbutton,
+        hasaxis,
         values,
         times,
         marks,
@@ -149,7 +149,7 @@ fn pumped<'s>(
 fn asked(
     head: Head,
     codes: &[u32; 208],
-    touched: &[bool; 208],
+    hasbutton: &[bool; 208],
     values: &Values,
     times: &Times,
     marks: &Marks,
@@ -162,7 +162,7 @@ fn asked(
     let answer = queries_lent::is_pressed_by_code(
         head,
         codes,
-        touched,
+        hasbutton,
         values,
         times,
         marks,
@@ -182,8 +182,8 @@ pub fn operation(
     kinds: &mut [u8; 208],
     names: &mut [u8; 208],
     renames: &[u8; 208],
-    touched: &mut [bool; 208],
-    moved: &mut [bool; 208],
+    hasbutton: &mut [bool; 208],
+    hasaxis: &mut [bool; 208],
     values: &mut Values,
     times: &mut Times,
     marks: &mut Marks,
@@ -201,8 +201,8 @@ pub fn operation(
             kinds,
             names,
             renames,
-            touched,
-            moved,
+            hasbutton,
+            hasaxis,
             values,
             times,
             marks,
@@ -214,7 +214,7 @@ pub fn operation(
         );
     }
     if opcode == PRESSED_BY_CODE {
-        let counts = asked(head, codes, touched, values, times, marks, payload, c);
+        let counts = asked(head, codes, hasbutton, values, times, marks, payload, c);
         return Played { head, counts };
     }
     if opcode == REGISTER {
@@ -223,8 +223,8 @@ pub fn operation(
             codes,
             kinds,
             names,
-            touched,
-            moved,
+            hasbutton,
+            hasaxis,
             values,
             marks,
             payload,
@@ -232,7 +232,16 @@ pub fn operation(
         );
     }
     if opcode == UPDATE {
-        let answer = calls_lent::update(head, codes, touched, moved, values, times, marks, payload);
+        let answer = calls_lent::update(
+            head,
+            codes,
+            hasbutton,
+            hasaxis,
+            values,
+            times,
+            marks,
+            payload,
+        );
         return Played {
             head,
             counts: counted(answer, c),

@@ -103,8 +103,8 @@ fn pump_all<'s>(
     kinds: &'s [u8; 208],
     names: &'s [u8; 208],
     renames: &'s [u8; 208],
-    touched: &mut [bool; 208],
-    moved: &mut [bool; 208],
+    hasbutton: &mut [bool; 208],
+    hasaxis: &mut [bool; 208],
     values: &mut Values,
     times: &mut Times,
     marks: &mut Marks,
@@ -116,7 +116,7 @@ fn pump_all<'s>(
 ) -> usize
     ensures { λ r. ⌜ Told (roundsOf rounds (hubOf head
         (listed (now (codes .entry)) (now (kinds .entry)) (now (names .entry)) (now (renames .entry)))
-        (columns (now (touched .entry)) (now (moved .entry)) (now (values .entry)) (now (times .entry)) (now (marks .entry))
+        (columns (now (hasbutton .entry)) (now (hasaxis .entry)) (now (values .entry)) (now (times .entry)) (now (marks .entry))
         (now (queuebytes .entry)) (now (queuecodes .entry))))
         (now (batch .entry)) 0 (now (out .entry)) 0) (now (text .exit)) r ⌝ }
 {
@@ -132,8 +132,8 @@ fn pump_all<'s>(
             kinds,
             names,
             renames,
-            touched,
-            moved,
+            hasbutton,
+            hasaxis,
             values,
             times,
             marks,
@@ -167,8 +167,8 @@ fn log(input: &[u8], out: &mut [u8; 16384], text: &mut [u8; 559538]) -> usize
     let mut kinds = [0u8; 208];
     let mut names = [0u8; 208];
     let mut renames = [0u8; 208];
-    let mut touched = [false; 208];
-    let mut moved = [false; 208];
+    let mut hasbutton = [false; 208];
+    let mut hasaxis = [false; 208];
     let mut values = [0.0f32; 1109];
     let mut times = [0u64; 900];
     let mut marks = [false; 627];
@@ -184,8 +184,8 @@ fn log(input: &[u8], out: &mut [u8; 16384], text: &mut [u8; 559538]) -> usize
         &mut kinds,
         &mut names,
         &mut renames,
-        &mut touched,
-        &mut moved,
+        &mut hasbutton,
+        &mut hasaxis,
         &mut values,
         &mut times,
         &mut marks,
@@ -199,8 +199,8 @@ fn log(input: &[u8], out: &mut [u8; 16384], text: &mut [u8; 559538]) -> usize
         &mut codes,
         &mut kinds,
         &mut names,
-        &mut touched,
-        &mut moved,
+        &mut hasbutton,
+        &mut hasaxis,
         &mut values,
         &mut marks,
         &input[..end],
@@ -215,8 +215,8 @@ fn log(input: &[u8], out: &mut [u8; 16384], text: &mut [u8; 559538]) -> usize
                 &kinds,
                 &names,
                 &renames,
-                &mut touched,
-                &mut moved,
+                &mut hasbutton,
+                &mut hasaxis,
                 &mut values,
                 &mut times,
                 &mut marks,

@@ -18,12 +18,12 @@ use Rattle.rules.specs.Places.{placeOf}
 use Rattle.rules.specs.Events.{nameOf, codeOf, queuedOf}
 use Rattle.rules.specs.Filters.{filteredOf, unfiltered}
 use Rattle.rules.specs.Hub.{viewOf, pastElement, pastButton, pastAxis}
-use Rattle.rules.specs.Step.{pushesOf, flagsSet, pushedOf, filteredIn, turnedOf}
+use Rattle.rules.specs.Step.{pushesOf, flagsSet, pushedOf, filteredIn, filteredHub}
 use Rattle.columns.specs.Columns.{elementsOf, buttonsOf, axesOf}
 use Rattle.hub.specs.declared.Head.{Head}
 use Rattle.hub.specs.Lent.{Listed, columns, hubOf}
-use Rattle.gather.specs.declared.Sight.{Sight}
-use Rattle.gather.specs.Sight.{viewBy, view-is}
+use Rattle.gather.specs.declared.EventPlaces.{EventPlaces}
+use Rattle.gather.specs.EventPlaces.{viewBy, view-is}
 use Rattle.filters.specs.declared.Sent.{Sent}
 use Rattle.filters.specs.Behind.{SentIs, sent-event, sent-flags}
 use Rattle.queueing.specs.Queued.{Pushed, pushed-then}
@@ -95,7 +95,7 @@ serves-sent on v d flags first sent ef rest =
     }
 
 pub serves-seen :
-    (on : Bool) (m : Hub) (d : Dispatched) (ms : List Bool) {name code : ℕ} {s : Sight} {v : View} {f : Sent} {flagged both : List Bool}
+    (on : Bool) (m : Hub) (d : Dispatched) (ms : List Bool) {name code : ℕ} {s : EventPlaces} {v : View} {f : Sent} {flagged both : List Bool}
     {vs vs1 vs2 : List Float} {ts bs cs ts1 bs1 cs1 ts2 bs2 cs2 : List ℕ} {head waiting more all : ℕ} →
     m .elements ≡ elementsOf vs ms →
     m .buttons ≡ buttonsOf vs ts ms →
@@ -140,8 +140,8 @@ servedHead h flags waiting =
       hats = h .hats;
       converts = h .converts;
       renamed = h .renamed;
-      rehats = h .rehats;
-      reconverts = h .reconverts;
+      newhats = h .newhats;
+      newconverts = h .newconverts;
       flags = flags;
       head = h .head;
       waiting = waiting;
@@ -153,14 +153,14 @@ abbrev pub ServedIn :
 ServedIn m d =
     ServedIs (m .filters) (viewOf (seenOf m) (d .event)) d (m .flags) (m .head) (m .waiting)
 
-module _ (h : Head) (s : Listed) (touched moved ms : List Bool) (d : Dispatched) {vs vs' : List Float} {ts bs cs ts' bs' cs' : List ℕ} {r : Served}
-    {flags : List Bool} (p : ServedIn (hubOf h s (columns touched moved vs ts ms bs cs)) d vs ts bs cs r flags vs' ts' bs' cs') where
+module _ (h : Head) (s : Listed) (hasbutton hasaxis ms : List Bool) (d : Dispatched) {vs vs' : List Float} {ts bs cs ts' bs' cs' : List ℕ} {r : Served}
+    {flags : List Bool} (p : ServedIn (hubOf h s (columns hasbutton hasaxis vs ts ms bs cs)) d vs ts bs cs r flags vs' ts' bs' cs') where
   abbrev stood : Hub
-  stood = hubOf h s (columns touched moved vs ts ms bs cs)
+  stood = hubOf h s (columns hasbutton hasaxis vs ts ms bs cs)
 
   -- the hub is the law book's, once the event has turned
-  pub served-hub : hubOf (servedHead h flags (r .waiting)) s (columns touched moved vs' ts' ms bs' cs') ≡ turnedOf stood d
-  unfolding turnedOf pushedOf
+  pub served-hub : hubOf (servedHead h flags (r .waiting)) s (columns hasbutton hasaxis vs' ts' ms bs' cs') ≡ filteredHub stood d
+  unfolding filteredHub pushedOf
   served-hub =
       rw (
         p .queued .elements ms,

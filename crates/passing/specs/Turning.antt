@@ -5,7 +5,7 @@ use mathlib.Core.Bool.{Bool}
 use mathlib.Core.List.{List}
 use Rattle.rules.specs.declared.Hub.{Hub}
 use Rattle.rules.specs.declared.Event.{Event}
-use Rattle.rules.specs.Step.{lookedOf, filteredIn, turnedOf}
+use Rattle.rules.specs.Step.{nextRecordOf, filteredIn, filteredHub}
 use Rattle.steps.specs.Turns.{marked-is, Turned, turned}
 use Rattle.taking.specs.declared.Taken.{Taken}
 use Rattle.taking.specs.Taking.{GivenIs, givesOf}
@@ -13,7 +13,7 @@ use Rattle.passing.specs.Passing.{MarkedIs}
 
 -- a hub with other marks, and another front and length of the queue
 abbrev pub markedHub : Hub → List Bool → List Bool → List Bool → List Bool → List Bool → ℕ → ℕ → Hub
-markedHub h connected renamed touched moved flags head waiting =
+markedHub h connected renamed hasbutton hasaxis flags head waiting =
     record {
       pressed = h .pressed;
       released = h .released;
@@ -27,16 +27,16 @@ markedHub h connected renamed touched moved flags head waiting =
       hats = h .hats;
       converts = h .converts;
       renamed = renamed;
-      rehats = h .rehats;
-      reconverts = h .reconverts;
+      newhats = h .newhats;
+      newconverts = h .newconverts;
       codes = h .codes;
       kinds = h .kinds;
       names = h .names;
       renames = h .renames;
       elements = h .elements;
-      touched = touched;
+      hasbutton = hasbutton;
       buttons = h .buttons;
-      moved = moved;
+      hasaxis = hasaxis;
       axes = h .axes;
       flags = flags;
       queue = h .queue;
@@ -45,14 +45,14 @@ markedHub h connected renamed touched moved flags head waiting =
     }
 
 pub turn-served :
-    (h : Hub) (s : List ℕ) (at : ℕ) {t : Taken} {connected renamed touched moved flags : List Bool} {u : Hub} {z : Event} →
+    (h : Hub) (s : List ℕ) (at : ℕ) {t : Taken} {connected renamed hasbutton hasaxis flags : List Bool} {u : Hub} {z : Event} →
     GivenIs h s at t →
-    MarkedIs (h .connected) (h .renamed) (h .touched) (h .moved) (h .flags) (t .pad) (t .kind) connected renamed touched moved flags →
-    u ≡ turnedOf (markedHub h connected renamed touched moved flags (t .head) (t .waiting)) (givesOf t) →
-    z ≡ filteredIn (markedHub h connected renamed touched moved flags (t .head) (t .waiting)) (t .event) .gives .event →
-    Turned h (lookedOf (h .waiting) s at) u z
+    MarkedIs (h .connected) (h .renamed) (h .hasbutton) (h .hasaxis) (h .flags) (t .pad) (t .kind) connected renamed hasbutton hasaxis flags →
+    u ≡ filteredHub (markedHub h connected renamed hasbutton hasaxis flags (t .head) (t .waiting)) (givesOf t) →
+    z ≡ filteredIn (markedHub h connected renamed hasbutton hasaxis flags (t .head) (t .waiting)) (t .event) .gives .event →
+    Turned h (nextRecordOf (h .waiting) s at) u z
 turn-served h s at g marks eu ez =
     let k = rw (g .pad, g .kind) at marks in
-    turned h (lookedOf (h .waiting) s at)
-    (marked-is h (lookedOf (h .waiting) s at .raw) refl refl refl (k .connected-is) (k .renamed-is) (k .touched-is) (k .moved-is) (k .flags-is) (g .head) (g .waiting))
+    turned h (nextRecordOf (h .waiting) s at)
+    (marked-is h (nextRecordOf (h .waiting) s at .raw) refl refl refl (k .connected-is) (k .renamed-is) (k .hasbutton-is) (k .hasaxis-is) (k .flags-is) (g .head) (g .waiting))
     (g .gives) refl ez eu

@@ -18,17 +18,13 @@ use columns::QueueBytes;
 use columns::QueueCodes;
 use columns::Times;
 use columns::Values;
+use rules::ELEMENT_AXIS;
 use rules::Event;
 use rules::EventType;
+use rules::FLAGS_PER_PAD;
+use rules::KIND_CONNECTED;
+use rules::PLACES_PER_PAD;
 use taking::Taken;
-
-const ELEMENT_AXIS: u8 = 2;
-
-const KIND_CONNECTED: u8 = 4;
-
-const PLACES_PER_PAD: usize = 52;
-
-const FLAGS_PER_PAD: usize = 6;
 
 // ---- the marks of a taken record
 
@@ -36,25 +32,25 @@ const FLAGS_PER_PAD: usize = 6;
 pub fn mark_joins(
     connected: &mut [bool; 4],
     renamed: &mut [bool; 4],
-    touched: &mut [bool; 208],
-    moved: &mut [bool; 208],
+    hasbutton: &mut [bool; 208],
+    hasaxis: &mut [bool; 208],
     flags: &mut [bool; 24],
     p: u8,
     kind: u8,
 )
-    ensures { λ _. ⌜ MarkedIs (now (connected .entry)) (now (renamed .entry)) (now (touched .entry)) (now (moved .entry)) (now (flags .entry)) p kind
-        (now (connected .exit)) (now (renamed .exit)) (now (touched .exit)) (now (moved .exit)) (now (flags .exit)) ⌝ }
+    ensures { λ _. ⌜ MarkedIs (now (connected .entry)) (now (renamed .entry)) (now (hasbutton .entry)) (now (hasaxis .entry)) (now (flags .entry)) p kind
+        (now (connected .exit)) (now (renamed .exit)) (now (hasbutton .exit)) (now (hasaxis .exit)) (now (flags .exit)) ⌝ }
 {
     if kind < KIND_CONNECTED {
         return;
     }
     let q = choices::wide(p);
-    let marks = turn::join_run(kind, PLACES_PER_PAD);
-    let runs = turn::join_run(kind, FLAGS_PER_PAD);
+    let marks = turn::marks_cleared(kind, PLACES_PER_PAD);
+    let runs = turn::marks_cleared(kind, FLAGS_PER_PAD);
     turn::connect(connected, p, kind);
     turn::forget(renamed, p, kind);
-    pad::clear(touched, PLACES_PER_PAD * q, marks);
-    pad::clear(moved, PLACES_PER_PAD * q, marks);
+    pad::clear(hasbutton, PLACES_PER_PAD * q, marks);
+    pad::clear(hasaxis, PLACES_PER_PAD * q, marks);
     pad::clear_flags(flags, FLAGS_PER_PAD * q, runs);
 }
 
@@ -118,9 +114,9 @@ pub fn serve<'a>(
     renames: &'a [u8; 208],
     renamed: &'a [bool; 4],
     converts: &'a [bool; 4],
-    reconverts: &'a [bool; 4],
-    touched: &'a [bool; 208],
-    moved: &'a [bool; 208],
+    newconverts: &'a [bool; 4],
+    hasbutton: &'a [bool; 208],
+    hasaxis: &'a [bool; 208],
     values: &mut Values,
     times: &mut Times,
     marks: &'a Marks,
@@ -132,7 +128,7 @@ pub fn serve<'a>(
 ) -> Served
     requires { ⌜ Placed (now codes) (t .event .pad) (codeOf (t .event)) (t .place) ⌝ }
     ensures { λ r. ⌜ ServedIs on (viewOf (seenHub (now (codes .entry)) (now (kinds .entry)) (now (names .entry)) (now (renames .entry))
-        (now (renamed .entry)) (now (converts .entry)) (now (reconverts .entry)) (now (touched .entry)) (now (moved .entry))
+        (now (renamed .entry)) (now (converts .entry)) (now (newconverts .entry)) (now (hasbutton .entry)) (now (hasaxis .entry))
         (elementsOf (now (values .entry)) (now (marks .entry))) (buttonsOf (now (values .entry)) (now (times .entry)) (now (marks .entry)))
         (axesOf (now (values .entry)) (now (times .entry))) (now (flags .entry))) (t .event)) (givesOf t) (now (flags .entry)) (t .head) (t .waiting)
         (now (values .entry)) (now (times .entry)) (now (queuebytes .entry)) (now (queuecodes .entry)) r (now (flags .exit))
@@ -148,16 +144,16 @@ pub fn serve<'a>(
         };
     }
     let code = events::code_of(e);
-    let s = gather::sighted_again(
+    let s = gather::event_places(
         codes,
         kinds,
         names,
         renames,
         renamed,
         converts,
-        reconverts,
-        touched,
-        moved,
+        newconverts,
+        hasbutton,
+        hasaxis,
         flags,
         e.pad,
         events::name_of(e),

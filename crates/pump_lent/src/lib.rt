@@ -12,9 +12,8 @@ use columns::Times;
 use columns::Values;
 use hub::Head;
 use hub::PumpedHead;
+use rules::EVENT_SIZE;
 use rules::PumpAnswer;
-
-const EVENT_SIZE: usize = 22;
 
 // No pad has this number.
 const NO_PAD: u8 = 4;
@@ -45,8 +44,8 @@ pub fn pump<'s>(
     kinds: &'s [u8; 208],
     names: &'s [u8; 208],
     renames: &'s [u8; 208],
-    touched: &mut [bool; 208],
-    moved: &mut [bool; 208],
+    hasbutton: &mut [bool; 208],
+    hasaxis: &mut [bool; 208],
     values: &mut Values,
     times: &mut Times,
     marks: &mut Marks,
@@ -58,11 +57,11 @@ pub fn pump<'s>(
     allowance: u16,
 ) -> PumpedHead
     ensures { λ r. ⌜ pumped r (listed (now (codes .entry)) (now (kinds .entry)) (now (names .entry)) (now (renames .entry)))
-        (columns (now (touched .exit)) (now (moved .exit)) (now (values .exit)) (now (times .exit)) (now (marks .exit))
+        (columns (now (hasbutton .exit)) (now (hasaxis .exit)) (now (values .exit)) (now (times .exit)) (now (marks .exit))
         (now (queuebytes .exit)) (now (queuecodes .exit)))
         (now (out .exit))
         ≡ pumpOf (hubOf head (listed (now (codes .entry)) (now (kinds .entry)) (now (names .entry)) (now (renames .entry)))
-        (columns (now (touched .entry)) (now (moved .entry)) (now (values .entry)) (now (times .entry)) (now (marks .entry))
+        (columns (now (hasbutton .entry)) (now (hasaxis .entry)) (now (values .entry)) (now (times .entry)) (now (marks .entry))
         (now (queuebytes .entry)) (now (queuecodes .entry))))
         (now (batch .entry)) place (now (out .entry)) allowance ⌝ }
 {
@@ -82,7 +81,7 @@ pub fn pump<'s>(
     let mut waiting = settings.waiting;
     // lent on by itself, so that the head's other fields need not stand in memory
     let converts = settings.converts;
-    let reconverts = settings.reconverts;
+    let newconverts = settings.newconverts;
     let mut at = place;
     let mut events: usize = 0;
     let mut steps: usize = 0;
@@ -112,7 +111,7 @@ pub fn pump<'s>(
                 names,
                 renames,
                 &renamed,
-                touched,
+                hasbutton,
                 values,
                 times,
                 marks,
@@ -140,8 +139,8 @@ pub fn pump<'s>(
             passing::mark_joins(
                 &mut connected,
                 &mut renamed,
-                touched,
-                moved,
+                hasbutton,
+                hasaxis,
                 &mut flags,
                 taken.pad,
                 taken.kind,
@@ -162,9 +161,9 @@ pub fn pump<'s>(
                 renames,
                 &renamed,
                 &converts,
-                &reconverts,
-                touched,
-                moved,
+                &newconverts,
+                hasbutton,
+                hasaxis,
                 values,
                 times,
                 marks,
@@ -183,8 +182,8 @@ pub fn pump<'s>(
         // commit: the state, and the event's bytes
         cells::settle(
             codes,
-            touched,
-            moved,
+            hasbutton,
+            hasaxis,
             values,
             times,
             marks,

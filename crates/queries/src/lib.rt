@@ -4,22 +4,23 @@ ghost use mathlib.Core.Path.{_≡_};
 ghost use mathlib.Core.Bool.{true};
 ghost use Prim.Native.Nat.{_≤_};
 ghost use Rattle.rules.specs.Names.{nowhere};
-ghost use Rattle.rules.specs.Hub.{pressedAt, valueAt, touchedAt, movedAt, buttonAt, axisAt};
+ghost use Rattle.rules.specs.Hub.{pressedAt, valueAt, hasButtonAt, hasAxisAt, buttonAt, axisAt};
 ghost use Rattle.rules.specs.Queries.{truthBy, valueBy, buttonBy, axisBy, numberBy};
 ghost use Rattle.rules.specs.Queries.{pressedByCode, pressedByName, connectedOf, valueByCode, valueByName, thresholdByCode};
 ghost use Rattle.rules.specs.Queries.{buttonByCode, buttonByName, axisByCode, axisByName, nameByCode, codeByName};
-ghost use Rattle.gather.specs.Sight.{PlaceIs};
+ghost use Rattle.gather.specs.EventPlaces.{PlaceIs};
 ghost use Rattle.queries.specs.Button.{buttonPlaceOf};
 use rules::AxisAnswer;
 use rules::AxisData;
 use rules::ButtonAnswer;
 use rules::ButtonData;
+use rules::ELEMENT_AXIS;
 use rules::Hub;
+use rules::NO_NAME;
+use rules::NOWHERE;
 use rules::NumberAnswer;
 use rules::TruthAnswer;
 use rules::ValueAnswer;
-
-const ELEMENT_AXIS: u8 = 2;
 
 // ---- an answer: the refusal's number, else what was asked for, else that it is absent
 
@@ -91,38 +92,38 @@ fn pressed_at(h: Hub, refusal: u8, place: usize) -> TruthAnswer
     requires { ⌜ place ≤ nowhere ⌝ }
     ensures { λ r. ⌜ r ≡ truthBy refusal (pressedAt h place) ⌝ }
 {
-    let touched = pad::bool_at(&h.touched, place);
+    let hasbutton = pad::bool_at(&h.hasbutton, place);
     let b = h.buttons[place];
-    truth(refusal, state::read_pressed(touched, b))
+    truth(refusal, state::read_pressed(hasbutton, b))
 }
 
 fn value_at(h: Hub, refusal: u8, place: usize) -> ValueAnswer
     requires { ⌜ place ≤ nowhere ⌝ }
     ensures { λ r. ⌜ r ≡ valueBy refusal true (valueAt h place) ⌝ }
 {
-    let moved = pad::bool_at(&h.moved, place);
+    let hasaxis = pad::bool_at(&h.hasaxis, place);
     let a = h.axes[place];
-    let touched = pad::bool_at(&h.touched, place);
+    let hasbutton = pad::bool_at(&h.hasbutton, place);
     let b = h.buttons[place];
-    value_or_absent(refusal, true, state::read_value(moved, a, touched, b))
+    value_or_absent(refusal, true, state::read_value(hasaxis, a, hasbutton, b))
 }
 
 fn button_at(h: Hub, refusal: u8, place: usize) -> ButtonAnswer
     requires { ⌜ place ≤ nowhere ⌝ }
-    ensures { λ r. ⌜ r ≡ buttonBy refusal (touchedAt h place) (buttonAt h place) ⌝ }
+    ensures { λ r. ⌜ r ≡ buttonBy refusal (hasButtonAt h place) (buttonAt h place) ⌝ }
 {
-    let touched = pad::bool_at(&h.touched, place);
+    let hasbutton = pad::bool_at(&h.hasbutton, place);
     let b = h.buttons[place];
-    button_or_absent(refusal, touched, b)
+    button_or_absent(refusal, hasbutton, b)
 }
 
 fn axis_at(h: Hub, refusal: u8, place: usize) -> AxisAnswer
     requires { ⌜ place ≤ nowhere ⌝ }
-    ensures { λ r. ⌜ r ≡ axisBy refusal (movedAt h place) (axisAt h place) ⌝ }
+    ensures { λ r. ⌜ r ≡ axisBy refusal (hasAxisAt h place) (axisAt h place) ⌝ }
 {
-    let moved = pad::bool_at(&h.moved, place);
+    let hasaxis = pad::bool_at(&h.hasaxis, place);
     let a = h.axes[place];
-    axis_or_absent(refusal, moved, a)
+    axis_or_absent(refusal, hasaxis, a)
 }
 
 // ---- pressed
@@ -147,7 +148,7 @@ fn button_place<'a>(
     ensures { λ r. ⌜ PlaceIs (buttonPlaceOf (now (codes .entry)) (now (names .entry)) (now (renames .entry)) (now (renamed .entry)) p name) r ⌝ }
 {
     let place = gather::present_place(names, renames, renamed, p, name);
-    if place < pad::NOWHERE {
+    if place < NOWHERE {
         place
     } else {
         pad::place_of(codes, p, names::to_nec(name))
@@ -216,7 +217,7 @@ pub fn axis_data(h: Hub, p: u8, name: u8) -> AxisAnswer
 
 // ---- the sheet: thresholds, names and codes
 
-// "Deadzone threshold. Axis elements only": 000's `deadzone_threshold`.
+// "Deadzone threshold. Axis elements only": gilrs's `deadzone_threshold`.
 pub fn deadzone_threshold(h: Hub, p: u8, code: u32) -> ValueAnswer
     ensures { λ r. ⌜ r ≡ thresholdByCode h p code ⌝ }
 {
@@ -227,24 +228,24 @@ pub fn deadzone_threshold(h: Hub, p: u8, code: u32) -> ValueAnswer
     value_or_absent(refusal, kind == ELEMENT_AXIS, element.threshold)
 }
 
-// 000's `axis_or_btn_name`.
+// gilrs's `axis_or_btn_name`.
 pub fn axis_or_btn_name(h: Hub, p: u8, code: u32) -> NumberAnswer
     ensures { λ r. ⌜ r ≡ nameByCode h p code ⌝ }
 {
     let refusal = refusals::pad_refusal(h.pads, p);
     let place = pad::place_of(&h.codes, p, code);
     let name = gather::present_name(&h.names, &h.renames, &h.renamed, p, place);
-    number(refusal, name != names::NO_NAME, name as u32)
+    number(refusal, name != NO_NAME, name as u32)
 }
 
-// 000's `button_code` and `axis_code`: the name's byte says which.
+// gilrs's `button_code` and `axis_code`: the name's byte says which.
 pub fn code_of_name(h: Hub, p: u8, name: u8) -> NumberAnswer
     ensures { λ r. ⌜ r ≡ codeByName h p name ⌝ }
 {
     let refusal = refusals::name_query_refusal(h.pads, p, name);
     let place = gather::present_place(&h.names, &h.renames, &h.renamed, p, name);
     let code = pad::code_at(&h.codes, place);
-    number(refusal, place < pad::NOWHERE, code)
+    number(refusal, place < NOWHERE, code)
 }
 
 // ---- the hub

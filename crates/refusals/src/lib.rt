@@ -1,19 +1,21 @@
 // The refusals of document 01 by number: the first that holds in its order, 0 for none. Each function equals its definition in the law book for every
 // input.
 ghost use mathlib.Core.Path.{_≡_};
-ghost use Rattle.rules.specs.Refusals.{inUnit, thresholdsRefusal, standsOf, valueFits, timeFits, elementRefusal, fieldsRefusal, recordRefusal};
+ghost use Rattle.rules.specs.Refusals.{inUnit, thresholdsRefusal, isRegistered, valueFits, timeFits, elementRefusal, fieldsRefusal, recordRefusal};
 ghost use Rattle.rules.specs.Refusals.{codeRefusal, formRefusal, insertRefusal, pumpRefusal, repeatRefusal};
 ghost use Rattle.rules.specs.Refusals.{buttonQueryRefusal, axisQueryRefusal, nameQueryRefusal, unlessFits};
 ghost use Rattle.rules.specs.Refusals as Refusals;
 ghost use mathlib.Core.Bool.{cond, _&&_, _||_};
 ghost use lib.Dec.{eqb};
+use rules::ELEMENT_AXIS;
+use rules::ELEMENT_BUTTON;
+use rules::EVENT_AXIS;
 use rules::EventForm;
-use rules::Looked;
+use rules::KIND_AXIS;
+use rules::NOWHERE;
+use rules::NextRecord;
+use rules::PADS;
 use rules::RawRecord;
-
-const PADS: u8 = 4;
-
-const NOWHERE: usize = 208;
 
 const LAST_TIME: u64 = 0x3fff_ffff_ffff_ffff;
 
@@ -24,15 +26,7 @@ const BUFFER_LIMIT: usize = 16_384;
 const INSERT_LIMIT: u8 = 16;
 
 // kinds of raw records and of events up to which a code is carried
-const KIND_AXIS: u8 = 3;
-
-const EVENT_AXIS: u8 = 5;
-
 // kinds of elements
-const ELEMENT_BUTTON: u8 = 1;
-
-const ELEMENT_AXIS: u8 = 2;
-
 // ---- in order: a number where the input does not fit, and the first number that there is
 
 pub fn unless_fits(fits: bool, number: u8) -> u8
@@ -70,8 +64,8 @@ pub fn thresholds_refusal(pressed: f32, released: f32) -> u8
 
 // ---- 6
 
-pub fn stands(pads: u8, p: u8) -> bool
-    ensures { λ r. ⌜ r ≡ standsOf pads p ⌝ }
+pub fn is_registered(pads: u8, p: u8) -> bool
+    ensures { λ r. ⌜ r ≡ isRegistered pads p ⌝ }
 {
     choices::both(p < pads, p < PADS)
 }
@@ -117,7 +111,7 @@ pub fn fields_refusal(raw: RawRecord, pads: u8, kind: u8) -> u8
     ensures { λ r. ⌜ r ≡ fieldsRefusal raw pads kind ⌝ }
 {
     first(
-        unless_fits(stands(pads, raw.pad), 6),
+        unless_fits(is_registered(pads, raw.pad), 6),
         first(
             element_refusal(raw.kind, kind),
             first(
@@ -128,7 +122,7 @@ pub fn fields_refusal(raw: RawRecord, pads: u8, kind: u8) -> u8
     )
 }
 
-pub fn record_refusal(l: Looked, pads: u8, kind: u8) -> u8
+pub fn record_refusal(l: NextRecord, pads: u8, kind: u8) -> u8
     ensures { λ r. ⌜ r ≡ recordRefusal l pads kind ⌝ }
 {
     let raw = l.raw;
@@ -147,7 +141,7 @@ pub fn form_refusal(f: EventForm, pads: u8, place: usize) -> u8
     ensures { λ r. ⌜ r ≡ formRefusal f pads place ⌝ }
 {
     first(
-        unless_fits(stands(pads, f.pad), 6),
+        unless_fits(is_registered(pads, f.pad), 6),
         first(
             code_refusal(f.kind, place),
             first(
@@ -194,16 +188,19 @@ pub fn repeat_refusal(after: u64, every: u64, now: u64) -> u8
 // ---- queries: 6, 16
 
 pub fn pad_refusal(pads: u8, p: u8) -> u8
-    ensures { λ r. ⌜ r ≡ unlessFits (standsOf pads p) 6 ⌝ }
+    ensures { λ r. ⌜ r ≡ unlessFits (isRegistered pads p) 6 ⌝ }
 {
-    unless_fits(stands(pads, p), 6)
+    unless_fits(is_registered(pads, p), 6)
 }
 
 // 6, then 16 where the name is not of the sort asked.
 fn named_refusal(pads: u8, p: u8, sort: bool) -> u8
-    ensures { λ r. ⌜ r ≡ Refusals.first (unlessFits (standsOf pads p) 6) (unlessFits sort 16) ⌝ }
+    ensures { λ r. ⌜ r ≡ Refusals.first (unlessFits (isRegistered pads p) 6) (unlessFits sort 16) ⌝ }
 {
-    first(unless_fits(stands(pads, p), 6), unless_fits(sort, 16))
+    first(
+        unless_fits(is_registered(pads, p), 6),
+        unless_fits(sort, 16),
+    )
 }
 
 pub fn button_query_refusal(pads: u8, p: u8, name: u8) -> u8

@@ -1,5 +1,4 @@
 -- One turn of the scan, and its end: a due record is the answer, a record that is not due leaves the answer to the records behind it.
--- Assumes nothing.
 use mathlib.Core.Path.{_≡_, refl}
 use mathlib.Core.Bool.{Bool, true, false}
 use mathlib.Core.List.{List}

@@ -1,5 +1,5 @@
 -- The public calls that change the hub, but the pump: new, register, rename, update, insert_event, inc and reset_counter. A refusal leaves the hub as it
--- was. Definitions only. Assumes nothing.
+-- was. Definitions only.
 use Prim.Native.Nat.{ℕ, zero, suc, _+_, _-_, _*_}
 use mathlib.Core.Bool.{Bool, true, false, cond, not}
 use mathlib.Core.List.{List, [], _∷_, map}
@@ -27,7 +27,7 @@ use Rattle.rules.specs.Names.{padLimit, placesPerPad, nowhere, noName, q
 use Rattle.rules.specs.Forms.{readEvent}
 use Rattle.rules.specs.Sheets.{sheetRefusal, hatsOf, countOf, renameListRefusal}
 use Rattle.rules.specs.Places.{placeOf, noElement, rowsOf, convertsOf, clearedOf, oneIf}
-use Rattle.rules.specs.Refusals.{thresholdsRefusal, standsOf, formRefusal, insertRefusal, first, unlessFits}
+use Rattle.rules.specs.Refusals.{thresholdsRefusal, isRegistered, formRefusal, insertRefusal, first, unlessFits}
 use Rattle.rules.specs.Events.{formEvent}
 use Rattle.rules.specs.State.{nextCounter}
 use Rattle.rules.specs.Hub.{placeIn, queueAfter, waitingAfter}
@@ -60,16 +60,16 @@ freshHub pressed released reversed filters updates =
       hats = replicate padLimit 0;
       converts = replicate padLimit false;
       renamed = replicate padLimit false;
-      rehats = replicate padLimit 0;
-      reconverts = replicate padLimit false;
+      newhats = replicate padLimit 0;
+      newconverts = replicate padLimit false;
       codes = replicate nowhere 0;
       kinds = replicate nowhere 0;
       names = replicate nowhere noName;
       renames = replicate nowhere noName;
       elements = replicate (nowhere + 1) noElement;
-      touched = replicate nowhere false;
+      hasbutton = replicate nowhere false;
       buttons = replicate (nowhere + 1) blankButton;
-      moved = replicate nowhere false;
+      hasaxis = replicate nowhere false;
       axes = replicate (nowhere + 1) blankAxis;
       flags = replicate (flagsPerPad * padLimit) false;
       queue = replicate queueRoom blankSlot;
@@ -129,16 +129,16 @@ registeredAt h p hats count rows =
           set (h .converts) p
           (convertsOf hats (laid (h .codes) (placesPerPad * p) (map rowCode rows)) (laid (h .names) (placesPerPad * p) (map rowName rows)) p);
       renamed = set (h .renamed) p false;
-      rehats = h .rehats;
-      reconverts = h .reconverts;
+      newhats = h .newhats;
+      newconverts = h .newconverts;
       codes = laid (h .codes) (placesPerPad * p) (map rowCode rows);
       kinds = laid (h .kinds) (placesPerPad * p) (map rowKind rows);
       names = laid (h .names) (placesPerPad * p) (map rowName rows);
       renames = h .renames;
       elements = laid (h .elements) (placesPerPad * p) (map rowElement rows);
-      touched = clearedOf (h .touched) (placesPerPad * p) placesPerPad;
+      hasbutton = clearedOf (h .hasbutton) (placesPerPad * p) placesPerPad;
       buttons = h .buttons;
-      moved = clearedOf (h .moved) (placesPerPad * p) placesPerPad;
+      hasaxis = clearedOf (h .hasaxis) (placesPerPad * p) placesPerPad;
       axes = h .axes;
       flags = clearedOf (h .flags) (flagsPerPad * p) flagsPerPad;
       queue = h .queue;
@@ -189,16 +189,16 @@ renamedAt h p renames =
       hats = h .hats;
       converts = h .converts;
       renamed = set (h .renamed) p true;
-      rehats = set (h .rehats) p 0;
-      reconverts = set (h .reconverts) p (convertsOf 0 (h .codes) renames p);
+      newhats = set (h .newhats) p 0;
+      newconverts = set (h .newconverts) p (convertsOf 0 (h .codes) renames p);
       codes = h .codes;
       kinds = h .kinds;
       names = h .names;
       renames = renames;
       elements = h .elements;
-      touched = h .touched;
+      hasbutton = h .hasbutton;
       buttons = h .buttons;
-      moved = h .moved;
+      hasaxis = h .hasaxis;
       axes = h .axes;
       flags = h .flags;
       queue = h .queue;
@@ -208,9 +208,9 @@ renamedAt h p renames =
 
 -- "Rename: 6, 7, 3, 4, 5"; 7: "rename of a disconnected pad"
 unfoldable pub renameRefusal : Hub → ℕ → List ℕ → ℕ
-unfolding standsOf renameListRefusal
+unfolding isRegistered renameListRefusal
 renameRefusal h p list =
-    first (unlessFits (standsOf (h .pads) p) 6)
+    first (unlessFits (isRegistered (h .pads) p) 6)
     (first (unlessFits (getD (h .connected) p false) 7) (renameListRefusal list (getD (h .counts) p 0)))
 
 abbrev pub renameBy : ℕ → Hub → ℕ → List ℕ → Answered
@@ -256,16 +256,16 @@ insertedAt h e =
       hats = h .hats;
       converts = h .converts;
       renamed = h .renamed;
-      rehats = h .rehats;
-      reconverts = h .reconverts;
+      newhats = h .newhats;
+      newconverts = h .newconverts;
       codes = h .codes;
       kinds = h .kinds;
       names = h .names;
       renames = h .renames;
       elements = h .elements;
-      touched = h .touched;
+      hasbutton = h .hasbutton;
       buttons = h .buttons;
-      moved = h .moved;
+      hasaxis = h .hasaxis;
       axes = h .axes;
       flags = h .flags;
       queue = queueAfter (h .queue) (h .head) (h .waiting) (e ∷ []);
@@ -302,16 +302,16 @@ countedAt h n =
       hats = h .hats;
       converts = h .converts;
       renamed = h .renamed;
-      rehats = h .rehats;
-      reconverts = h .reconverts;
+      newhats = h .newhats;
+      newconverts = h .newconverts;
       codes = h .codes;
       kinds = h .kinds;
       names = h .names;
       renames = h .renames;
       elements = h .elements;
-      touched = h .touched;
+      hasbutton = h .hasbutton;
       buttons = h .buttons;
-      moved = h .moved;
+      hasaxis = h .hasaxis;
       axes = h .axes;
       flags = h .flags;
       queue = h .queue;

@@ -1,5 +1,5 @@
 -- Events: their numbers, how one waits in the queue and comes back, its bytes, and what an event with others queued behind it is.
--- Definitions only. Assumes nothing.
+-- Definitions only.
 use Prim.Native.Nat.{ℕ, _%_}
 use mathlib.Core.Bool.{Bool, true, false, cond, not, _&&_}
 use mathlib.Core.List.{List, [], _∷_}
@@ -127,7 +127,7 @@ isDropped e = droppedType (e .event)
 abbrev pub dropped : Event → Event
 dropped e = record { pad = e .pad; time = e .time; event = Dropped }
 
--- another event of the same pad and time: 000's `..ev`
+-- another event of the same pad and time: gilrs's `..ev`
 abbrev pub with : Event → EventType → Event
 with e t = record { pad = e .pad; time = e .time; event = t }
 

@@ -1,4 +1,4 @@
--- Pad sheets: their bytes read, and what refuses them, 3, 4 and 5 in that order. Definitions only. Assumes nothing.
+-- Pad sheets: their bytes read, and what refuses them, 3, 4 and 5 in that order. Definitions only.
 use Prim.Native.Nat.{ℕ, zero, suc, _+_, _-_, _*_}
 use mathlib.Core.Bool.{Bool, true, false, cond, not, _&&_, _||_}
 use mathlib.Core.List.{List, [], _∷_, _++_}
@@ -108,27 +108,27 @@ unfoldable pub nameAt : List ℕ → ℕ → ℕ → ℕ → ℕ
 nameAt s start stride i = getD s (start + stride * i) 0
 
 -- the name is among the n from the i-th on
-unfoldable pub standsIn : List ℕ → ℕ → ℕ → ℕ → ℕ → ℕ → Bool
+unfoldable pub occursIn : List ℕ → ℕ → ℕ → ℕ → ℕ → ℕ → Bool
 unfolding nameAt
-standsIn s start stride name zero i = false
-standsIn s start stride name (suc n) i = eqb (nameAt s start stride i) name || standsIn s start stride name n (i + 1)
+occursIn s start stride name zero i = false
+occursIn s start stride name (suc n) i = eqb (nameAt s start stride i) name || occursIn s start stride name n (i + 1)
 
-unfoldable pub standsTwice : List ℕ → ℕ → ℕ → ℕ → ℕ → Bool
-unfolding nameAt standsIn
-standsTwice s start stride zero i = false
-standsTwice s start stride (suc n) i =
-    (not (eqb (nameAt s start stride i) noName) && standsIn s start stride (nameAt s start stride i) n (i + 1))
-    || standsTwice s start stride n (i + 1)
+unfoldable pub occursTwice : List ℕ → ℕ → ℕ → ℕ → ℕ → Bool
+unfolding nameAt occursIn
+occursTwice s start stride zero i = false
+occursTwice s start stride (suc n) i =
+    (not (eqb (nameAt s start stride i) noName) && occursIn s start stride (nameAt s start stride i) n (i + 1))
+    || occursTwice s start stride n (i + 1)
 
 -- ---- "Sheet order: 2, 3, 4, 5"
 
 -- 0 where the sheet is good
 unfoldable pub sheetRefusal : List ℕ → ℕ
-unfolding sheetFits hatsOf countOf elementsFit standsTwice
+unfolding sheetFits hatsOf countOf elementsFit occursTwice
 sheetRefusal s =
     cond (not (sheetFits s)) 3
     (cond (ltb lastHats (hatsOf s) || not (elementsFit s (countOf s) 0)) 4
-    (cond (standsTwice s (sheetOpening + nameOffset) elementSize (countOf s) 0) 5 0))
+    (cond (occursTwice s (sheetOpening + nameOffset) elementSize (countOf s) 0) 5 0))
 
 abbrev pub pickSheet : Bool → ℕ → ℕ → ℕ → SheetRead
 pickSheet true hats n number = sheetRead.Sheet hats n
@@ -147,9 +147,9 @@ namesFit s zero i = true
 namesFit s (suc n) i = nameAllowed (getD s i 0) && namesFit s n (i + 1)
 
 unfoldable pub renameListRefusal : List ℕ → ℕ → ℕ
-unfolding namesFit standsTwice
+unfolding namesFit occursTwice
 renameListRefusal s count =
-    cond (not (eqb (length s) count)) 3 (cond (not (namesFit s count 0)) 4 (cond (standsTwice s 0 1 count 0) 5 0))
+    cond (not (eqb (length s) count)) 3 (cond (not (namesFit s count 0)) 4 (cond (occursTwice s 0 1 count 0) 5 0))
 
 -- ---- a sheet's bytes, for examples and theorems
 

@@ -1,5 +1,5 @@
 -- A step: it takes the queue's front, else the next raw record; the event passes the filters; what they queue waits; and the state is updated.
--- Each stage is one record that copies the fields it leaves alone. Definitions only. Assumes nothing.
+-- Each stage is one record that copies the fields it leaves alone. Definitions only.
 use Prim.Native.Nat.{ℕ, zero, suc, _+_, _-_, _*_, _%_}
 use mathlib.Core.Bool.{Bool, true, false, cond, not, _&&_, _||_}
 use mathlib.Core.List.{List, [], _∷_, _++_}
@@ -11,7 +11,7 @@ use Rattle.rules.specs.declared.Event.{Event}
 use Rattle.rules.specs.declared.RawRecord.{RawRecord}
 use Rattle.rules.specs.declared.RecordRead.{RecordRead}
 use Rattle.rules.specs.declared.RecordRead.the-variants as recordRead
-use Rattle.rules.specs.declared.Looked.{Looked}
+use Rattle.rules.specs.declared.NextRecord.{NextRecord}
 use Rattle.rules.specs.declared.Dispatched.{Dispatched}
 use Rattle.rules.specs.declared.Flags.{Flags}
 use Rattle.rules.specs.declared.Gives.{Gives}
@@ -24,21 +24,21 @@ use Rattle.rules.specs.Events.{nameOf, codeOf, queuedOf}
 use Rattle.rules.specs.Dispatch.{dispatchOf, single}
 use Rattle.rules.specs.Filters.{filteredOf}
 use Rattle.rules.specs.State.{buttonAfter, axisAfter, writesButton, writesAxis}
-use Rattle.rules.specs.Hub.{placeIn, nameIn, kindAt, elementAt, buttonAt, axisAt, touchedAt, movedAt, pressedAt, frontOf, flagPlace, viewOf, queueAfter, waitingAfter}
+use Rattle.rules.specs.Hub.{placeIn, nameIn, kindAt, elementAt, buttonAt, axisAt, hasButtonAt, hasAxisAt, pressedAt, frontOf, flagPlace, viewOf, queueAfter, waitingAfter}
 
 -- ---- the record looked at
 
 abbrev pub blankRecord : RawRecord
 blankRecord = record { kind = 0; pad = 0; code = 0; value = pos 0; time = 0 }
 
-abbrev pub lookedBy : RecordRead → Looked
-lookedBy (recordRead.Record r) = record { raw = r; fits = true }
-lookedBy recordRead.Malformed = record { raw = blankRecord; fits = false }
+abbrev pub nextRecordBy : RecordRead → NextRecord
+nextRecordBy (recordRead.Record r) = record { raw = r; fits = true }
+nextRecordBy recordRead.Malformed = record { raw = blankRecord; fits = false }
 
 -- while something waits, no record is looked at
-unfoldable pub lookedOf : ℕ → List ℕ → ℕ → Looked
+unfoldable pub nextRecordOf : ℕ → List ℕ → ℕ → NextRecord
 unfolding readRecord
-lookedOf waiting s at = cond (ltb 0 waiting) (record { raw = blankRecord; fits = true }) (lookedBy (readRecord s at))
+nextRecordOf waiting s at = cond (ltb 0 waiting) (record { raw = blankRecord; fits = true }) (nextRecordBy (readRecord s at))
 
 -- the kind of the element that has the record's code
 unfoldable pub recordKind : Hub → RawRecord → ℕ
@@ -46,7 +46,7 @@ unfolding placeOf
 recordKind h r = kindAt h (placeIn h (r .pad) (r .code))
 
 -- the record's refusal, 0 where it is taken, or where something waits
-unfoldable pub stepRefusal : Hub → Looked → ℕ
+unfoldable pub stepRefusal : Hub → NextRecord → ℕ
 unfolding recordRefusal recordKind
 stepRefusal h l = cond (ltb 0 (h .waiting)) 0 (recordRefusal l (h .pads) (recordKind h (l .raw)))
 
@@ -57,7 +57,7 @@ unfolding dispatchOf presentNames pressedAt
 recordGives h r k =
     dispatchOf r (nameIn h (r .pad) k) (elementAt h k) (pressedAt h k) (h .pressed) (h .released) (h .reversed)
 
-unfoldable pub takenOf : Hub → Looked → Dispatched
+unfoldable pub takenOf : Hub → NextRecord → Dispatched
 unfolding recordGives frontOf placeOf
 takenOf h l = cond (ltb 0 (h .waiting)) (single (frontOf h)) (recordGives h (l .raw) (placeIn h (l .raw .pad) (l .raw .code)))
 
@@ -72,15 +72,15 @@ unfoldable pub renamedAfter : List Bool → ℕ → ℕ → List Bool
 renamedAfter renamed p kind = cond (eqb kind kindConnected) (set renamed p false) renamed
 
 -- how many marks of a run Connected takes off
-unfoldable pub joinRun : ℕ → ℕ → ℕ
-joinRun kind n = cond (eqb kind kindConnected) n 0
+unfoldable pub marksCleared : ℕ → ℕ → ℕ
+marksCleared kind n = cond (eqb kind kindConnected) n 0
 
 -- the ring's front after a step took it
 unfoldable pub headAfter : ℕ → ℕ → ℕ
 headAfter head waiting = cond (ltb 0 waiting) ((head % queueRoom + 1) % queueRoom) head
 
 unfoldable pub markedOf : Hub → RawRecord → Hub
-unfolding connectedAfter renamedAfter joinRun headAfter clearedOf
+unfolding connectedAfter renamedAfter marksCleared headAfter clearedOf
 markedOf h r =
     record {
       pressed = h .pressed;
@@ -95,18 +95,18 @@ markedOf h r =
       hats = h .hats;
       converts = h .converts;
       renamed = renamedAfter (h .renamed) (r .pad) (r .kind);
-      rehats = h .rehats;
-      reconverts = h .reconverts;
+      newhats = h .newhats;
+      newconverts = h .newconverts;
       codes = h .codes;
       kinds = h .kinds;
       names = h .names;
       renames = h .renames;
       elements = h .elements;
-      touched = clearedOf (h .touched) (placesPerPad * r .pad) (joinRun (r .kind) placesPerPad);
+      hasbutton = clearedOf (h .hasbutton) (placesPerPad * r .pad) (marksCleared (r .kind) placesPerPad);
       buttons = h .buttons;
-      moved = clearedOf (h .moved) (placesPerPad * r .pad) (joinRun (r .kind) placesPerPad);
+      hasaxis = clearedOf (h .hasaxis) (placesPerPad * r .pad) (marksCleared (r .kind) placesPerPad);
       axes = h .axes;
-      flags = clearedOf (h .flags) (flagsPerPad * r .pad) (joinRun (r .kind) flagsPerPad);
+      flags = clearedOf (h .flags) (flagsPerPad * r .pad) (marksCleared (r .kind) flagsPerPad);
       queue = h .queue;
       head = headAfter (h .head) (h .waiting);
       waiting = h .waiting - 1;
@@ -139,16 +139,16 @@ pushedOf h e f es =
       hats = h .hats;
       converts = h .converts;
       renamed = h .renamed;
-      rehats = h .rehats;
-      reconverts = h .reconverts;
+      newhats = h .newhats;
+      newconverts = h .newconverts;
       codes = h .codes;
       kinds = h .kinds;
       names = h .names;
       renames = h .renames;
       elements = h .elements;
-      touched = h .touched;
+      hasbutton = h .hasbutton;
       buttons = h .buttons;
-      moved = h .moved;
+      hasaxis = h .hasaxis;
       axes = h .axes;
       flags = flagsSet (h .flags) (e .pad) (nameOf e) f;
       queue = queueAfter (h .queue) (h .head) (h .waiting) es;
@@ -174,16 +174,16 @@ updatedAt on h e k =
       hats = h .hats;
       converts = h .converts;
       renamed = h .renamed;
-      rehats = h .rehats;
-      reconverts = h .reconverts;
+      newhats = h .newhats;
+      newconverts = h .newconverts;
       codes = h .codes;
       kinds = h .kinds;
       names = h .names;
       renames = h .renames;
       elements = h .elements;
-      touched = set (h .touched) k (touchedAt h k || (on && writesButton e));
-      buttons = set (h .buttons) k (cond on (buttonAfter e (touchedAt h k) (buttonAt h k) (h .counter)) (buttonAt h k));
-      moved = set (h .moved) k (movedAt h k || (on && writesAxis e));
+      hasbutton = set (h .hasbutton) k (hasButtonAt h k || (on && writesButton e));
+      buttons = set (h .buttons) k (cond on (buttonAfter e (hasButtonAt h k) (buttonAt h k) (h .counter)) (buttonAt h k));
+      hasaxis = set (h .hasaxis) k (hasAxisAt h k || (on && writesAxis e));
       axes = set (h .axes) k (cond on (axisAfter e (axisAt h k) (h .counter)) (axisAt h k));
       flags = h .flags;
       queue = h .queue;
@@ -203,15 +203,15 @@ unfolding filteredOf viewOf
 filteredIn h e = filteredOf (h .filters) (viewOf h e) e
 
 -- what is taken, filtered and queued: the hub before its state is updated
-unfoldable pub turnedOf : Hub → Dispatched → Hub
+unfoldable pub filteredHub : Hub → Dispatched → Hub
 unfolding pushedOf pushesOf filteredIn
-turnedOf h d = pushedOf h (d .event) (filteredIn h (d .event) .flags) (pushesOf d (filteredIn h (d .event) .gives))
+filteredHub h d = pushedOf h (d .event) (filteredIn h (d .event) .flags) (pushesOf d (filteredIn h (d .event) .gives))
 
 -- the event that a step hands on, or Dropped
-unfoldable pub stepEvent : Hub → Looked → Event
+unfoldable pub stepEvent : Hub → NextRecord → Event
 unfolding filteredIn markedOf takenOf
 stepEvent h l = filteredIn (markedOf h (l .raw)) (takenOf h l .event) .gives .event
 
-unfoldable pub stepHub : Hub → Looked → Hub
-unfolding updatedOf turnedOf markedOf takenOf stepEvent
-stepHub h l = updatedOf (h .updates) (turnedOf (markedOf h (l .raw)) (takenOf h l)) (stepEvent h l)
+unfoldable pub stepHub : Hub → NextRecord → Hub
+unfolding updatedOf filteredHub markedOf takenOf stepEvent
+stepHub h l = updatedOf (h .updates) (filteredHub (markedOf h (l .raw)) (takenOf h l)) (stepEvent h l)

@@ -1,5 +1,52 @@
 // The types of the desk hub: what events, records, sheets, the hub and its answers are. No function: the rules stand in specs/ as definitions.
 
+// ---- the numbers of document 01
+
+pub const PADS: u8 = 4;
+
+// a pad's places: 48 elements and the four directions
+pub const PLACES_PER_PAD: usize = 52;
+
+// the place of a code that no pad has: one past the last
+pub const NOWHERE: usize = 208;
+
+// the deadzone flags of a pad, one for each stick's axis
+pub const FLAGS_PER_PAD: usize = 6;
+
+// ---- a sheet: opening, and elements of one size
+
+pub const SHEET_OPENING: usize = 5;
+
+// where a sheet has its count of elements
+pub const COUNT_AT: usize = 4;
+
+pub const ELEMENT_SIZE: usize = 18;
+
+pub const ELEMENT_BUTTON: u8 = 1;
+
+pub const ELEMENT_AXIS: u8 = 2;
+
+pub const NO_NAME: u8 = 255;
+
+// ---- a record, and an event
+
+pub const RECORD_SIZE: usize = 21;
+
+pub const KIND_AXIS: u8 = 3;
+
+pub const KIND_CONNECTED: u8 = 4;
+
+pub const KIND_DISCONNECTED: u8 = 5;
+
+pub const EVENT_SIZE: usize = 22;
+
+pub const EVENT_AXIS: u8 = 5;
+
+// the refusal of bytes that are not of their form
+pub const MALFORMED: u8 = 8;
+
+// ---- events, records, elements, the hub
+
 // What an event says. The cases that hold a value hold name, code and value; a button's name is 0..19, an axis's 32..40.
 pub enum EventType {
     Pressed(u8, u32),
@@ -44,7 +91,7 @@ pub enum RecordRead {
 }
 
 // The record that a step looks at: where the queue still holds something, or the record is malformed, a blank one.
-pub struct Looked {
+pub struct NextRecord {
     pub raw: RawRecord,
     pub fits: bool,
 }
@@ -113,8 +160,8 @@ pub struct AxisData {
 }
 
 // The hub. A pad has 52 places in code order, pad p the places 52 p to 52 p + 51; place 208 is no pad's, and stands for a code that is not there.
-// `hats`, `converts` and `names` are the registered sheet's; where a pad is `renamed`, the columns `rehats`, `reconverts` and `renames` hold
-// instead. A place has a button record where it is `touched`, and an axis record where it is `moved`.
+// `hats`, `converts` and `names` are the registered sheet's; where a pad is `renamed`, the columns `newhats`, `newconverts` and `renames` hold
+// instead. A place has a button record where it is `hasbutton`, and an axis record where it is `hasaxis`.
 pub struct Hub {
     pub pressed: f32,
     pub released: f32,
@@ -128,16 +175,16 @@ pub struct Hub {
     pub hats: [u8; 4],
     pub converts: [bool; 4],
     pub renamed: [bool; 4],
-    pub rehats: [u8; 4],
-    pub reconverts: [bool; 4],
+    pub newhats: [u8; 4],
+    pub newconverts: [bool; 4],
     pub codes: [u32; 208],
     pub kinds: [u8; 208],
     pub names: [u8; 208],
     pub renames: [u8; 208],
     pub elements: [Element; 209],
-    pub touched: [bool; 208],
+    pub hasbutton: [bool; 208],
     pub buttons: [ButtonData; 209],
-    pub moved: [bool; 208],
+    pub hasaxis: [bool; 208],
     pub axes: [AxisData; 209],
     pub flags: [bool; 24],
     pub queue: [Slot; 64],

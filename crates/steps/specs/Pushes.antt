@@ -1,4 +1,4 @@
--- The events that a turn pushes, one by one: a hub with more events waiting, one event more, and none left. Assumes nothing.
+-- The events that a turn pushes, one by one: a hub with more events waiting, one event more, and none left.
 use Prim.Native.Nat.{ℕ, _+_, _≤_, _<_}
 use mathlib.Core.Path.{_≡_, _∙_}
 use mathlib.Core.List.{List, _∷_}
@@ -33,16 +33,16 @@ queuedHub h es =
       hats = h .hats;
       converts = h .converts;
       renamed = h .renamed;
-      rehats = h .rehats;
-      reconverts = h .reconverts;
+      newhats = h .newhats;
+      newconverts = h .newconverts;
       codes = h .codes;
       kinds = h .kinds;
       names = h .names;
       renames = h .renames;
       elements = h .elements;
-      touched = h .touched;
+      hasbutton = h .hasbutton;
       buttons = h .buttons;
-      moved = h .moved;
+      hasaxis = h .hasaxis;
       axes = h .axes;
       flags = h .flags;
       queue = queueAfter (h .queue) (h .head) (h .waiting) es;
@@ -78,16 +78,16 @@ pub push-one :
       hats = h .hats;
       converts = h .converts;
       renamed = h .renamed;
-      rehats = h .rehats;
-      reconverts = h .reconverts;
+      newhats = h .newhats;
+      newconverts = h .newconverts;
       codes = h .codes;
       kinds = h .kinds;
       names = h .names;
       renames = h .renames;
       elements = h .elements;
-      touched = h .touched;
+      hasbutton = h .hasbutton;
       buttons = h .buttons;
-      moved = h .moved;
+      hasaxis = h .hasaxis;
       axes = h .axes;
       flags = h .flags;
       queue = set (h .queue) free slot;

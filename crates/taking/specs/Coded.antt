@@ -10,14 +10,14 @@ use native.Mathlib.Omega.{arith}
 use borrow.Author.Tests.{ltb-true, leb-true, eqb-true, eqb-false}
 use Rattle.numbers.specs.Scale.{axisScaledOf, buttonScaledOf}
 use Rattle.rules.specs.declared.RawRecord.{RawRecord}
-use Rattle.rules.specs.declared.Looked.{Looked}
+use Rattle.rules.specs.declared.NextRecord.{NextRecord}
 use Rattle.rules.specs.declared.Element.{Element}
 use Rattle.rules.specs.declared.Dispatched.{Dispatched}
 use Rattle.rules.specs.Names.{isButton, isAxis, isY}
 use Rattle.rules.specs.Forms.{recordSize, kindPressed, kindReleased, kindAxis, kindConnected, kindDisconnected, opens, recordKindFits, recordFits, recordFields, readRecord, fieldOf, pickRecord}
 use Rattle.rules.specs.Events.{codeOf}
 use Rattle.rules.specs.Dispatch.{Move, pressing, moving, joining, leaving, moveOf, axisName, pressGives, triggerBy, triggerGives, moveGives, dispatchBy, dispatchOf}
-use Rattle.rules.specs.Step.{lookedBy}
+use Rattle.rules.specs.Step.{nextRecordBy}
 
 -- ---- dispatch
 
@@ -105,8 +105,8 @@ coded kind code value fits =
 read-coded :
     (b : Bool) (s : List ℕ) (at : ℕ) →
     recordFits s at ≡ b →
-    lookedBy (pickRecord b (recordFields s at)) .fits ≡ true →
-    let r = lookedBy (pickRecord b (recordFields s at)) .raw in cond (hasCode (moveOf (r .kind))) (r .code) 0 ≡ r .code
+    nextRecordBy (pickRecord b (recordFields s at)) .fits ≡ true →
+    let r = nextRecordBy (pickRecord b (recordFields s at)) .raw in cond (hasCode (moveOf (r .kind))) (r .code) 0 ≡ r .code
 unfolding recordFits recordFields moveOf
 read-coded true s at fits e =
     let long = and-eq-true-iff (leb recordSize (length s - at)) _ .0 fits in
@@ -121,17 +121,17 @@ pub record Kept (r : RawRecord) (d : Dispatched) : Type 0 where
 
 kept-at :
     (s : List ℕ) (at n : ℕ) (e : Element) (held : Bool) (pressed released : Float) (reversed : Bool) →
-    lookedBy (readRecord s at) .fits ≡ true →
-    let r = lookedBy (readRecord s at) .raw in Kept r (dispatchOf r n e held pressed released reversed)
+    nextRecordBy (readRecord s at) .fits ≡ true →
+    let r = nextRecordBy (readRecord s at) .raw in Kept r (dispatchOf r n e held pressed released reversed)
 unfolding readRecord dispatchOf
 kept-at s at n e held pressed released reversed fits =
-    let r = lookedBy (readRecord s at) .raw in
+    let r = nextRecordBy (readRecord s at) .raw in
     let k = keeps-by (moveOf (r .kind)) r n e held pressed released reversed in
     record { pad = k .pad; code = k .code ∙ read-coded (recordFits s at) s at refl fits }
 
 pub kept-by :
-    (s : List ℕ) (at n : ℕ) (e : Element) (held : Bool) (pressed released : Float) (reversed : Bool) {l : Looked} {d : Dispatched} →
-    l ≡ lookedBy (readRecord s at) →
+    (s : List ℕ) (at n : ℕ) (e : Element) (held : Bool) (pressed released : Float) (reversed : Bool) {l : NextRecord} {d : Dispatched} →
+    l ≡ nextRecordBy (readRecord s at) →
     l .fits ≡ true →
     d ≡ dispatchOf (l .raw) n e held pressed released reversed →
     Kept (l .raw) d

@@ -15,7 +15,7 @@ use Rattle.rules.specs.declared.Element.{Element}
 use Rattle.rules.specs.declared.ButtonData.{ButtonData}
 use Rattle.rules.specs.declared.Slot.{Slot}
 use Rattle.rules.specs.declared.Event.{Event}
-use Rattle.rules.specs.declared.Looked.{Looked}
+use Rattle.rules.specs.declared.NextRecord.{NextRecord}
 use Rattle.rules.specs.declared.RawRecord.{RawRecord}
 use Rattle.rules.specs.declared.Dispatched.{Dispatched}
 use Rattle.rules.specs.Names.{queueRoom}
@@ -26,11 +26,11 @@ use Rattle.rules.specs.Events.{codeOf, eventOf}
 use Rattle.rules.specs.State.{readPressed}
 use Rattle.rules.specs.Dispatch.{dispatchOf}
 use Rattle.rules.specs.Hub.{frontOf, pressedAt, pastSlot, pastElement, pastButton}
-use Rattle.rules.specs.Step.{lookedOf, lookedBy, stepRefusal, recordKind, takenOf, recordGives, headAfter}
+use Rattle.rules.specs.Step.{nextRecordOf, nextRecordBy, stepRefusal, recordKind, takenOf, recordGives, headAfter}
 use Rattle.rules.specs.Pump.{placeAfter}
 use Rattle.pad.specs.Found.{Placed}
 use Rattle.gather.specs.declared.Found.{Found}
-use Rattle.gather.specs.Sight.{FoundIs, foundAt, found-placed}
+use Rattle.gather.specs.EventPlaces.{FoundIs, foundAt, found-placed}
 use Rattle.turn.specs.Turn.{takenBy}
 use Rattle.steps.specs.Records.{Taken as Judged, taken as not-refused, whole, refusal-is}
 use Rattle.steps.specs.Turns.{taken-is}
@@ -40,7 +40,7 @@ use Rattle.taking.specs.Coded.{Kept, kept-by}
 -- what is read to take a step's event: a hub that has these, and blanks for what is not read
 abbrev pub takingHub :
     List ℕ → List ℕ → List ℕ → List ℕ → List Bool → List Bool → List Element → List ButtonData → List Slot → ℕ → Float → Float → Bool → ℕ → ℕ → Hub
-takingHub codes kinds names renames renamed touched elements buttons queue pads pressed released reversed head waiting =
+takingHub codes kinds names renames renamed hasbutton elements buttons queue pads pressed released reversed head waiting =
     record {
       pressed = pressed;
       released = released;
@@ -54,16 +54,16 @@ takingHub codes kinds names renames renamed touched elements buttons queue pads 
       hats = [];
       converts = [];
       renamed = renamed;
-      rehats = [];
-      reconverts = [];
+      newhats = [];
+      newconverts = [];
       codes = codes;
       kinds = kinds;
       names = names;
       renames = renames;
       elements = elements;
-      touched = touched;
+      hasbutton = hasbutton;
       buttons = buttons;
-      moved = [];
+      hasaxis = [];
       axes = [];
       flags = [];
       queue = queue;
@@ -77,9 +77,9 @@ givesOf r = record { event = r .event; follows = r .follows; next = r .next }
 
 -- what is taken where nothing is refused: the law book's event, with the place of its code, and where batch and queue stand after
 pub record GivenIs (h : Hub) (s : List ℕ) (at : ℕ) (r : Taken) : Type 0 where
-  pub pad : r .pad ≡ lookedOf (h .waiting) s at .raw .pad
-  pub kind : r .kind ≡ lookedOf (h .waiting) s at .raw .kind
-  pub gives : givesOf r ≡ takenOf h (lookedOf (h .waiting) s at)
+  pub pad : r .pad ≡ nextRecordOf (h .waiting) s at .raw .pad
+  pub kind : r .kind ≡ nextRecordOf (h .waiting) s at .raw .kind
+  pub gives : givesOf r ≡ takenOf h (nextRecordOf (h .waiting) s at)
   pub placed : Placed (h .codes) (r .event .pad) (codeOf (r .event)) (r .place)
   pub place : r .at ≡ placeAfter (h .waiting) at
   pub within : at ≤ length s → r .at ≤ length s
@@ -87,14 +87,14 @@ pub record GivenIs (h : Hub) (s : List ℕ) (at : ℕ) (r : Taken) : Type 0 wher
   pub waiting : r .waiting ≡ h .waiting - 1
 
 pub record TakenIs (h : Hub) (s : List ℕ) (at : ℕ) (r : Taken) : Type 0 where
-  pub number : r .number ≡ stepRefusal h (lookedOf (h .waiting) s at)
+  pub number : r .number ≡ stepRefusal h (nextRecordOf (h .waiting) s at)
   pub given : r .number ≤ 0 → GivenIs h s at r
 
 -- what is taken of a hub's columns is taken of the hub
 pub taken-in :
     (h : Hub) (s : List ℕ) (at : ℕ) {r : Taken} →
     TakenIs
-    (takingHub (h .codes) (h .kinds) (h .names) (h .renames) (h .renamed) (h .touched) (h .elements) (h .buttons) (h .queue) (h .pads) (h .pressed) (h .released)
+    (takingHub (h .codes) (h .kinds) (h .names) (h .renames) (h .renamed) (h .hasbutton) (h .elements) (h .buttons) (h .queue) (h .pads) (h .pressed) (h .released)
     (h .reversed) (h .head) (h .waiting))
     s at r →
     TakenIs h s at r
@@ -144,7 +144,7 @@ module _ (h : Hub) (s : List ℕ) (at : ℕ) where
         head = head;
         waiting = waiting;
       })
-  unfolding stepRefusal lookedOf takenOf frontOf placeAfter
+  unfolding stepRefusal nextRecordOf takenOf frontOf placeAfter
   takes-front some ef es ee ec placed eh ew =
       let waits : ltb 0 (h .waiting) ≡ true = lt-ltb 0 (h .waiting) some in
       record {
@@ -163,13 +163,13 @@ module _ (h : Hub) (s : List ℕ) (at : ℕ) where
             };
       }
 
-  module _ {l : Looked} {found : Found} {number : ℕ} (none : h .waiting ≤ 0) (el : l ≡ lookedOf (h .waiting) s at)
-      (found-is : FoundIs (h .codes) (h .kinds) (h .names) (h .renames) (h .renamed) (h .touched) (l .raw .pad) (l .raw .code) found)
+  module _ {l : NextRecord} {found : Found} {number : ℕ} (none : h .waiting ≤ 0) (el : l ≡ nextRecordOf (h .waiting) s at)
+      (found-is : FoundIs (h .codes) (h .kinds) (h .names) (h .renames) (h .renamed) (h .hasbutton) (l .raw .pad) (l .raw .code) found)
       (en : number ≡ recordRefusal l (h .pads) (found .kind)) where
     waits-none : ltb 0 (h .waiting) ≡ false
     waits-none = le-ltb 0 (h .waiting) none
 
-    number-is : number ≡ stepRefusal h (lookedOf (h .waiting) s at)
+    number-is : number ≡ stepRefusal h (nextRecordOf (h .waiting) s at)
     number-is = refusal-is h s at el (found-is .is) (rw waits-none en)
 
     -- a record that is refused
@@ -181,8 +181,8 @@ module _ (h : Hub) (s : List ℕ) (at : ℕ) where
       judged : Judged l
       judged = not-refused l (h .pads) (found .kind) (rw en at taken)
 
-      read : l ≡ lookedBy (readRecord s at)
-      unfolding lookedOf
+      read : l ≡ nextRecordBy (readRecord s at)
+      unfolding nextRecordOf
       read = el ∙ rw waits-none
 
       pub takes-within : withinOf (l .raw .value) ≡ true
@@ -195,7 +195,7 @@ module _ (h : Hub) (s : List ℕ) (at : ℕ) where
           {element : Element} {b : ButtonData} {held : Bool} {d : Dispatched} →
           element ≡ getD (h .elements) (found .place) pastElement →
           b ≡ getD (h .buttons) (found .place) pastButton →
-          held ≡ readPressed (found .touched) b →
+          held ≡ readPressed (found .hasbutton) b →
           d ≡ dispatchOf (l .raw) (found .name) element held (h .pressed) (h .released) (h .reversed) →
           TakenIs h s at
           (record {
@@ -219,8 +219,8 @@ module _ (h : Hub) (s : List ℕ) (at : ℕ) where
             given =
                 λ z.
                 record {
-                  pad = ap (λ (x : Looked). x .raw .pad) el;
-                  kind = ap (λ (x : Looked). x .raw .kind) el;
+                  pad = ap (λ (x : NextRecord). x .raw .pad) el;
+                  kind = ap (λ (x : NextRecord). x .raw .kind) el;
                   gives = taken-is h l {front = h .head % queueRoom} (found-is .is) refl (ed ∙ rw (waits-none, eh, eb, ee)) ∙ ap (takenOf h) el;
                   placed = rw (kept .code, kept .pad) (found-placed found-is);
                   place = rw waits-none;

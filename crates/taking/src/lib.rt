@@ -11,7 +11,7 @@ use columns::Times;
 use columns::Values;
 use rules::Event;
 use rules::EventType;
-use wire::RECORD_SIZE;
+use rules::RECORD_SIZE;
 
 // What a step takes: the record's refusal, 0 where there is none; the record's pad and kind, blank for the queue's front; the event, the place of its code, and
 // what the record queues behind it; and where batch and queue stand once it is taken.
@@ -59,7 +59,7 @@ pub fn take<'a>(
     names: &'a [u8; 208],
     renames: &'a [u8; 208],
     renamed: &'a [bool; 4],
-    touched: &'a [bool; 208],
+    hasbutton: &'a [bool; 208],
     values: &'a Values,
     times: &'a Times,
     marks: &'a Marks,
@@ -79,7 +79,7 @@ pub fn take<'a>(
 ) -> Taken
     requires { ⌜ Placed (now codes) lastpad lastcode last ⌝ }
     ensures { λ r. ⌜ TakenIs (takingHub (now (codes .entry)) (now (kinds .entry)) (now (names .entry)) (now (renames .entry)) (now (renamed .entry))
-        (now (touched .entry)) (elementsOf (now (values .entry)) (now (marks .entry)))
+        (now (hasbutton .entry)) (elementsOf (now (values .entry)) (now (marks .entry)))
         (buttonsOf (now (values .entry)) (now (times .entry)) (now (marks .entry)))
         (slotsOf (now (values .entry)) (now (times .entry)) (now (queuebytes .entry)) (now (queuecodes .entry)))
         pads pressed released reversed head waiting) (now (batch .entry)) at r ⌝ }
@@ -102,7 +102,7 @@ pub fn take<'a>(
             waiting: turn::fewer(waiting),
         };
     }
-    let l = wire::look(batch, at, waiting);
+    let l = wire::next_record(batch, at, waiting);
     let raw = l.raw;
     let found = gather::find(
         codes,
@@ -110,7 +110,7 @@ pub fn take<'a>(
         names,
         renames,
         renamed,
-        touched,
+        hasbutton,
         raw.pad,
         raw.code,
     );
@@ -121,7 +121,7 @@ pub fn take<'a>(
     let place = found.place;
     let element = columns::element_at(values, marks, place);
     let b = columns::button_at(values, times, marks, place);
-    let held = state::read_pressed(found.touched, b);
+    let held = state::read_pressed(found.hasbutton, b);
     let d = dispatch::dispatch(raw, found.name, element, held, pressed, released, reversed);
     let e = d.event;
     let next = d.next;

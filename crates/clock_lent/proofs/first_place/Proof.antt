@@ -9,11 +9,11 @@ use Rattle.clock_lent.proofs.first_place.Statement.{statement}
 use Rattle.clock_lent.proofs.first_place.Tie as tie
 
 abbrev Inv-loop : tie.InvT-loop
-Inv-loop connected touched values times marks after every clock p₀ p =
-    (p ≤ 4) × (from-pad connected touched (buttonsOf values times marks) after every clock p ≡ from-pad connected touched (buttonsOf values times marks) after every clock 0)
+Inv-loop connected hasbutton values times marks after every clock p₀ p =
+    (p ≤ 4) × (from-pad connected hasbutton (buttonsOf values times marks) after every clock p ≡ from-pad connected hasbutton (buttonsOf values times marks) after every clock 0)
 
 abbrev μ-loop : tie.MeasureT-loop
-μ-loop connected touched values times marks after every clock p₀ p = 4 - p
+μ-loop connected hasbutton values times marks after every clock p₀ p = 4 - p
 
 loop-holds : tie.Need-loop-holds Inv-loop μ-loop
 loop-holds c = (omega arith, refl)

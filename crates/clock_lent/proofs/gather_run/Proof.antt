@@ -13,11 +13,11 @@ use Rattle.clock_lent.proofs.gather_run.Statement.{statement}
 use Rattle.clock_lent.proofs.gather_run.Tie as tie
 
 abbrev Inv-loop : tie.InvT-loop
-Inv-loop touched values times marks start run₀ index₀ run index =
-    (index ≤ placesPerPad) × (length run ≡ placesPerPad) × ((j : ℕ) → j < index → getD run j pastButton ≡ recordOf (getD touched (start + j) false) (getD (buttonsOf values times marks) (start + j) pastButton))
+Inv-loop hasbutton values times marks start run₀ index₀ run index =
+    (index ≤ placesPerPad) × (length run ≡ placesPerPad) × ((j : ℕ) → j < index → getD run j pastButton ≡ recordOf (getD hasbutton (start + j) false) (getD (buttonsOf values times marks) (start + j) pastButton))
 
 abbrev μ-loop : tie.MeasureT-loop
-μ-loop touched values times marks start run₀ index₀ run index = placesPerPad - index
+μ-loop hasbutton values times marks start run₀ index₀ run index = placesPerPad - index
 
 blank-requires : tie.Need-blank-requires Inv-loop μ-loop
 blank-requires c κs = search needs

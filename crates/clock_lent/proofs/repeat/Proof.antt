@@ -11,14 +11,14 @@ repeat-refusal-requires : tie.Need-repeat-refusal-requires
 repeat-refusal-requires c κs = search needs
 
 returns : tie.Need-returns
-returns c kinds queuebytes queuecodes moved = repeat-refused _ _ _ _ (c .before .repeat-refusal .ensures) (c .if1 .taken)
+returns c kinds queuebytes queuecodes hasaxis = repeat-refused _ _ _ _ (c .before .repeat-refusal .ensures) (c .if1 .taken)
 
 first-place-requires : tie.Need-first-place-requires
 first-place-requires c κs = search needs
 
 returns-2 : tie.Need-returns-2
 unfolding duePlace
-returns-2 c kinds queuebytes queuecodes moved =
+returns-2 c kinds queuebytes queuecodes hasaxis =
     repeat-quiet _ _ _ _ (c .before .before .before .before .before .repeat-refusal .ensures) (c .before .before .before .before .if1 .left) (c .before .first-place .ensures) (c .if2 .taken)
 
 cast-p : tie.Need-cast-p
@@ -43,7 +43,7 @@ repeated-requires c κs =
 
 returns-3 : tie.Need-returns-3
 unfolding duePlace
-returns-3 c kinds queuebytes queuecodes moved =
+returns-3 c kinds queuebytes queuecodes hasaxis =
     repeat-due _ _ _ _ (c .before .before .before .before .before .before .before .before .before .before .before .before .repeat-refusal .ensures) (c .before .before .before .before .before .before .before .before .before .before .before .if1 .left) (c .before .before .before .before .before .before .before .before .first-place .ensures) (c .before .before .before .before .before .before .before .if2 .left)
     (c .before .before .before .before .present-name .ensures) (c .before .before .before .code-at .ensures) (rw (← c .before .button-at .ensures) (c .repeated .ensures))
 

@@ -1,4 +1,4 @@
--- `pace::paced` is safe and ends: the rounds are counted down. Assumes nothing.
+-- `pace::paced` is safe and ends: the rounds are counted down.
 use Prim.Native.Nat.{_≤_}
 use mathlib.Core.Path.{_≡_}
 use native.Mathlib.Omega.{arith}
@@ -8,11 +8,11 @@ use Rattle.pace.proofs.paced.Statement.{statement}
 use Rattle.pace.proofs.paced.Tie as tie
 
 abbrev Inv-loop : tie.InvT-loop
-Inv-loop course out₀ left₀ end codes kinds names renames touched moved values times marks queuebytes queuecodes head c₀ out left c =
+Inv-loop course out₀ left₀ end codes kinds names renames hasbutton hasaxis values times marks queuebytes queuecodes head c₀ out left c =
     (end ≤ length course) × (length out ≡ length out₀)
 
 abbrev μ-loop : tie.MeasureT-loop
-μ-loop course out₀ left₀ end codes kinds names renames touched moved values times marks queuebytes queuecodes head c₀ out left c =
+μ-loop course out₀ left₀ end codes kinds names renames hasbutton hasaxis values times marks queuebytes queuecodes head c₀ out left c =
     left
 
 -- from where the arrays are lent to `play` back to where the opening is known to end inside the course

@@ -1,4 +1,4 @@
--- `pace::play` is safe and ends: each operation leaves fewer bytes. Assumes nothing.
+-- `pace::play` is safe and ends: each operation leaves fewer bytes.
 use Prim.Native.Nat.{_≤_, _-_}
 use native.Mathlib.Omega.{arith}
 use mathlib.Core.Path.{_≡_}
@@ -8,13 +8,13 @@ use Rattle.pace.proofs.play.Statement.{statement}
 use Rattle.pace.proofs.play.Tie as tie
 
 abbrev Inv-loop : tie.InvT-loop
-Inv-loop codes₀ kinds₀ names₀ renames touched₀ moved₀ values₀ times₀ marks₀ queuebytes₀ queuecodes₀ operations out₀ h₀ c₀ at₀
-    codes kinds names touched moved values times marks queuebytes queuecodes out h c at =
+Inv-loop codes₀ kinds₀ names₀ renames hasbutton₀ hasaxis₀ values₀ times₀ marks₀ queuebytes₀ queuecodes₀ operations out₀ h₀ c₀ at₀
+    codes kinds names hasbutton hasaxis values times marks queuebytes queuecodes out h c at =
     (at ≤ length operations) × (length out ≡ length out₀)
 
 abbrev μ-loop : tie.MeasureT-loop
-μ-loop codes₀ kinds₀ names₀ renames touched₀ moved₀ values₀ times₀ marks₀ queuebytes₀ queuecodes₀ operations out₀ h₀ c₀ at₀
-    codes kinds names touched moved values times marks queuebytes queuecodes out h c at =
+μ-loop codes₀ kinds₀ names₀ renames hasbutton₀ hasaxis₀ values₀ times₀ marks₀ queuebytes₀ queuecodes₀ operations out₀ h₀ c₀ at₀
+    codes kinds names hasbutton hasaxis values times marks queuebytes queuecodes out h c at =
     length operations - at
 
 -- from the end of a turn back to where the operation is known to be whole

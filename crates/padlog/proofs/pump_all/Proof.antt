@@ -1,4 +1,4 @@
--- `padlog::pump_all` meets its contract. The invariant: what is printed and what the calls to come print make the whole text. Assumes nothing.
+-- `padlog::pump_all` meets its contract. The invariant: what is printed and what the calls to come print make the whole text.
 use Prim.Native.Nat.{ℕ, suc, _+_, _-_, _≤_, _<_}
 use mathlib.Core.Path.{_≡_, refl, sym, ap, subst, _∙_}
 use mathlib.Core.List.{List, _++_, append-nil}
@@ -18,17 +18,17 @@ use Rattle.padlog.proofs.tally_of.Reads as tally-of-reads
 use Rattle.pump_lent.proofs.pump.Reads as pump-reads
 
 abbrev Inv-loop : tie.InvT-loop
-Inv-loop codes kinds names renames touched₀ moved₀ values₀ times₀ marks₀ queuebytes₀ queuecodes₀ batch out₀ text₀ h₀ place₀ steps₀ at₀ left₀
-    touched moved values times marks queuebytes queuecodes out text h place steps at left =
+Inv-loop codes kinds names renames hasbutton₀ hasaxis₀ values₀ times₀ marks₀ queuebytes₀ queuecodes₀ batch out₀ text₀ h₀ place₀ steps₀ at₀ left₀
+    hasbutton hasaxis values times marks queuebytes queuecodes out text h place steps at left =
     Standing batch
-    (roundsOf rounds (hubOf h₀ (listed codes kinds names renames) (columns touched₀ moved₀ values₀ times₀ marks₀ queuebytes₀ queuecodes₀)) batch place₀ out₀
+    (roundsOf rounds (hubOf h₀ (listed codes kinds names renames) (columns hasbutton₀ hasaxis₀ values₀ times₀ marks₀ queuebytes₀ queuecodes₀)) batch place₀ out₀
     steps₀)
-    (hubOf h (listed codes kinds names renames) (columns touched moved values times marks queuebytes queuecodes)) place out steps text at left
+    (hubOf h (listed codes kinds names renames) (columns hasbutton hasaxis values times marks queuebytes queuecodes)) place out steps text at left
     × (left ≤ rounds)
 
 abbrev μ-loop : tie.MeasureT-loop
-μ-loop codes kinds names renames touched₀ moved₀ values₀ times₀ marks₀ queuebytes₀ queuecodes₀ batch out₀ text₀ h₀ place₀ steps₀ at₀ left₀
-    touched moved values times marks queuebytes queuecodes out text h place steps at left = left
+μ-loop codes kinds names renames hasbutton₀ hasaxis₀ values₀ times₀ marks₀ queuebytes₀ queuecodes₀ batch out₀ text₀ h₀ place₀ steps₀ at₀ left₀
+    hasbutton hasaxis values times marks queuebytes queuecodes out text h place steps at left = left
 
 -- ---- the landmarks that the proofs go by, and what each turn knows at its lines
 

@@ -18,12 +18,12 @@ use Rattle.passing.proofs.serve.Statement.{statement}
 use Rattle.passing.proofs.serve.Tie as tie
 
 abbrev Inv-loop : tie.InvT-loop
-Inv-loop codes kinds names renames renamed converts reconverts touched moved values₀ times₀ marks queuebytes₀ queuecodes₀ flags on t more e
+Inv-loop codes kinds names renames renamed converts newconverts hasbutton hasaxis values₀ times₀ marks queuebytes₀ queuecodes₀ flags on t more e
     place code v f count all₀ x₀ values times queuebytes queuecodes all x =
     (x ≤ count) × Pushed values₀ times₀ queuebytes₀ queuecodes₀ (t .head) more (waitsBehind v e f x) values times queuebytes queuecodes all
 
 abbrev μ-loop : tie.MeasureT-loop
-μ-loop codes kinds names renames renamed converts reconverts touched moved values₀ times₀ marks queuebytes₀ queuecodes₀ flags on t more e
+μ-loop codes kinds names renames renamed converts newconverts hasbutton hasaxis values₀ times₀ marks queuebytes₀ queuecodes₀ flags on t more e
     place code v f count all₀ x₀ values times queuebytes queuecodes all x =
     count - x
 
@@ -42,10 +42,10 @@ pushed c = c .before .before .before .before
 abbrev coded : At tie.After-name-of → At tie.After-code-of
 coded c = c .before .before
 
-abbrev named : At tie.After-sighted-again → At tie.After-name-of
+abbrev named : At tie.After-event-places → At tie.After-name-of
 named c = c .before
 
-abbrev sighted : At tie.After-view-in → At tie.After-sighted-again
+abbrev sighted : At tie.After-view-in → At tie.After-event-places
 sighted c = c .before .before .before
 
 abbrev sent : At tie.After-mark-flag → At tie.After-through
@@ -58,8 +58,8 @@ marked c = c .before .before
 abbrev seen : At tie.Start → Hub
 seen c =
     let a = c .args in
-    seenHub (now (a .codes)) (now (a .kinds)) (now (a .names)) (now (a .renames)) (now (a .renamed)) (now (a .converts)) (now (a .reconverts))
-    (now (a .touched)) (now (a .moved)) (elementsOf (now (a .values)) (now (a .marks))) (buttonsOf (now (a .values)) (now (a .times)) (now (a .marks)))
+    seenHub (now (a .codes)) (now (a .kinds)) (now (a .names)) (now (a .renames)) (now (a .renamed)) (now (a .converts)) (now (a .newconverts))
+    (now (a .hasbutton)) (now (a .hasaxis)) (elementsOf (now (a .values)) (now (a .marks))) (buttonsOf (now (a .values)) (now (a .times)) (now (a .marks)))
     (axesOf (now (a .values)) (now (a .times))) (now (a .flags))
 
 -- what was taken
@@ -89,8 +89,8 @@ code-of-requires c κs = search needs
 name-of-requires : At tie.Need-name-of-requires
 name-of-requires c κs = search needs
 
-sighted-again-requires : At tie.Need-sighted-again-requires
-sighted-again-requires c κs = rw (coded c .code-of .ensures) (start (pushed (coded c)) .pre)
+event-places-requires : At tie.Need-event-places-requires
+event-places-requires c κs = rw (coded c .code-of .ensures) (start (pushed (coded c)) .pre)
 
 view-in-requires : At tie.Need-view-in-requires
 view-in-requires c κs = search needs
@@ -147,7 +147,7 @@ returns-2 c =
     let s = start first in
     let all : loop .loop .x ≡ f .through .result .count = omega (arith, loop .before .wide .ensures .0, loop .loop .inv .0) in
     serves-seen (s .args .on) (seen s) (taken s) (now (s .args .marks)) refl refl refl (first .push-next .ensures) (n .name-of .ensures)
-    (coded n .code-of .ensures) (sighted v .sighted-again .ensures) (v .view-in .ensures) (f .through .ensures) (own .mark-flag .ensures)
+    (coded n .code-of .ensures) (sighted v .event-places .ensures) (v .view-in .ensures) (f .through .ensures) (own .mark-flag .ensures)
     (both .mark-flag2 .ensures) (rw all at (loop .loop .inv .1))
 
 pub serve-spec : {M : Type 1} → statement M
@@ -161,7 +161,7 @@ serve-spec =
     returns
     code-of-requires
     name-of-requires
-    sighted-again-requires
+    event-places-requires
     view-in-requires
     through-requires
     mark-flag-requires

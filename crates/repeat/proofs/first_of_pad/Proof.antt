@@ -1,7 +1,6 @@
 -- `first_of_pad` meets its contract: a walk of its MIR, by hand. The records lie in a local, are lent to `scan_run` for a lifetime that the walk makes, and are
 -- taken back when the call is over. All that the walk knows of `scan_run` is that it meets its contract, which says of the lent run what `first_of_pad` says of
 -- the array.
--- Assumes nothing.
 use mathlib.Core.Path.{_≡_, refl, sym}
 use mathlib.Core.List.{List, [], _∷_}
 use Prim.Native.Nat.{ℕ, _≤_}

@@ -1,7 +1,6 @@
 -- `scan_run` meets its contract: a walk of its MIR, by hand. At each turn the lent run is looked into, the record at the index is taken out of the row,
 -- copied and put back, and `due` is asked of the copy. The loop's variable is an index before which none is due: what the records from there on give is what
 -- all of them give. All that the walk knows of `due` is that it meets its contract.
--- Assumes nothing.
 use mathlib.Core.Path.{_≡_, refl, sym, _∙_, ap}
 use mathlib.Core.Bool.{Bool, true, false, not}
 use mathlib.Core.List.{List, [], _∷_}

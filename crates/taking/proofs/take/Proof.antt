@@ -14,7 +14,7 @@ use Rattle.taking.proofs.take.Tie as tie
 abbrev found : tie.After-record-refusal → tie.After-find
 found c = c .before
 
-abbrev looked : tie.After-record-refusal → tie.After-look
+abbrev looked : tie.After-record-refusal → tie.After-next-record
 looked c = found c .before .before
 
 abbrev start : tie.After-record-refusal → tie.Start
@@ -27,7 +27,7 @@ judged c = c .before .before .before .before .before
 abbrev lent : tie.Start → Hub
 lent c =
     let a = c .args in
-    takingHub (now (a .codes)) (now (a .kinds)) (now (a .names)) (now (a .renames)) (now (a .renamed)) (now (a .touched))
+    takingHub (now (a .codes)) (now (a .kinds)) (now (a .names)) (now (a .renames)) (now (a .renamed)) (now (a .hasbutton))
     (elementsOf (now (a .values)) (now (a .marks))) (buttonsOf (now (a .values)) (now (a .times)) (now (a .marks)))
     (slotsOf (now (a .values)) (now (a .times)) (now (a .queuebytes)) (now (a .queuecodes))) (a .pads) (a .pressed) (a .released) (a .reversed) (a .head)
     (a .waiting)
@@ -66,8 +66,8 @@ returns c =
 
 -- ---- the record
 
-look-requires : tie.Need-look-requires
-look-requires c κs = search needs
+next-record-requires : tie.Need-next-record-requires
+next-record-requires c κs = search needs
 
 find-requires : tie.Need-find-requires
 find-requires c κs = search needs
@@ -82,7 +82,7 @@ returns-2 : tie.Need-returns-2
 returns-2 c =
     let j = c .before .before in
     let s = start j in
-    takes-none (lent s) (now (s .args .batch)) (s .args .at) (looked j .before .if1 .left) (looked j .look .ensures) (found j .find .ensures)
+    takes-none (lent s) (now (s .args .batch)) (s .args .at) (looked j .before .if1 .left) (looked j .next-record .ensures) (found j .find .ensures)
     (j .record-refusal .ensures) (c .before .if2 .taken) (c .refused .ensures)
 
 element-at-requires : tie.Need-element-at-requires
@@ -99,7 +99,7 @@ dispatch-requires c κs =
     let taken = c .before .before .before in
     let j = taken .before in
     let s = start j in
-    takes-within (lent s) (now (s .args .batch)) (s .args .at) (looked j .before .if1 .left) (looked j .look .ensures) (found j .find .ensures)
+    takes-within (lent s) (now (s .args .batch)) (s .args .at) (looked j .before .if1 .left) (looked j .next-record .ensures) (found j .find .ensures)
     (j .record-refusal .ensures) (taken .if2 .left)
 
 add-after : tie.Need-add-after
@@ -108,7 +108,7 @@ add-after c =
     let j = judged d in
     let s = start j in
     let whole =
-    takes-whole (lent s) (now (s .args .batch)) (s .args .at) (looked j .before .if1 .left) (looked j .look .ensures) (found j .find .ensures)
+    takes-whole (lent s) (now (s .args .batch)) (s .args .at) (looked j .before .if1 .left) (looked j .next-record .ensures) (found j .find .ensures)
     (j .record-refusal .ensures) (d .before .before .before .before .if2 .left) in
     omega (arith, looked j .before .before)
 
@@ -117,7 +117,7 @@ returns-3 c =
     let d = c .before .before in
     let j = judged d in
     let s = start j in
-    takes-record (lent s) (now (s .args .batch)) (s .args .at) (looked j .before .if1 .left) (looked j .look .ensures) (found j .find .ensures)
+    takes-record (lent s) (now (s .args .batch)) (s .args .at) (looked j .before .if1 .left) (looked j .next-record .ensures) (found j .find .ensures)
     (j .record-refusal .ensures) (d .before .before .before .before .if2 .left) (d .before .before .before .element-at .ensures)
     (d .before .before .button-at .ensures) (d .before .read-pressed .ensures) (d .dispatch .ensures)
 
@@ -133,7 +133,7 @@ take-spec =
     head-after-requires
     fewer-requires
     returns
-    look-requires
+    next-record-requires
     find-requires
     record-refusal-requires
     refused-requires

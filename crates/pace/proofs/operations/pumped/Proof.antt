@@ -1,4 +1,4 @@
--- `pace::operations::pumped` is safe: the out buffer is lent as far as it goes. Assumes nothing.
+-- `pace::operations::pumped` is safe: the out buffer is lent as far as it goes.
 use native.Mathlib.Omega.{arith}
 use lib.ListN.{length-take}
 use borrow.Author.Needs.{needs}

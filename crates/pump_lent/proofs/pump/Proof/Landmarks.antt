@@ -89,10 +89,10 @@ abbrev pub hub-given : At tie.Start → Hub
 hub-given c =
     let a = c .args in
     hubOf (a .head) (listed-in c)
-    (columns (now (a .touched)) (now (a .moved)) (now (a .values)) (now (a .times)) (now (a .marks)) (now (a .queuebytes)) (now (a .queuecodes)))
+    (columns (now (a .hasbutton)) (now (a .hasaxis)) (now (a .values)) (now (a .times)) (now (a .marks)) (now (a .queuebytes)) (now (a .queuecodes)))
 
 abbrev pub columns-in : At tie.At-loop2 → Columns
-columns-in c = let l = c .loop2 in columns (l .touched) (l .moved) (l .values) (l .times) (outer c .loop .marks) (l .queuebytes) (l .queuecodes)
+columns-in c = let l = c .loop2 in columns (l .hasbutton) (l .hasaxis) (l .values) (l .times) (outer c .loop .marks) (l .queuebytes) (l .queuecodes)
 
 abbrev pub hub-in : At tie.At-loop2 → Hub
 hub-in c =
@@ -101,11 +101,11 @@ hub-in c =
     hubAt (s .args .head) (l .connected) (l .renamed) (l .flags) (l .front) (l .waiting) (listed-in s) (columns-in c)
 
 -- the marks of which records stand, once a record that joins has cleared its pad's
-abbrev pub touched-by : At tie.After-mark-joins → List Bool
-touched-by c = c .mark-joins .last .1 .1 .0
+abbrev pub hasbutton-by : At tie.After-mark-joins → List Bool
+hasbutton-by c = c .mark-joins .last .1 .1 .0
 
-abbrev pub moved-by : At tie.After-mark-joins → List Bool
-moved-by c = c .mark-joins .last .1 .1 .1 .0
+abbrev pub hasaxis-by : At tie.After-mark-joins → List Bool
+hasaxis-by c = c .mark-joins .last .1 .1 .1 .0
 
 -- the head once a record's marks are made
 abbrev pub head-marked : At tie.After-mark-joins → Head

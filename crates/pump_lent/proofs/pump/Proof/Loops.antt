@@ -20,45 +20,45 @@ hubAt head connected renamed flags front waiting s t = hubOf (steppedHead head c
 
 -- the inner loop: one step of the law book a turn
 abbrev pub Inv-loop2 : tie.InvT-loop2
-Inv-loop2 codes kinds names renames touched₀ moved₀ values₀ times₀ marks queuebytes₀ queuecodes₀ batch place out allowance h refused
-    connected₀ renamed₀ flags₀ front₀ waiting₀ converts reconverts at₀ events steps₀ left₀ lastpad₀ lastcode₀ last₀ touched moved values times queuebytes queuecodes
+Inv-loop2 codes kinds names renames hasbutton₀ hasaxis₀ values₀ times₀ marks queuebytes₀ queuecodes₀ batch place out allowance h refused
+    connected₀ renamed₀ flags₀ front₀ waiting₀ converts newconverts at₀ events steps₀ left₀ lastpad₀ lastcode₀ last₀ hasbutton hasaxis values times queuebytes queuecodes
     connected renamed flags front waiting at steps left lastpad lastcode last =
     Going
-    (hubAt h connected renamed flags front waiting (listed codes kinds names renames) (columns touched moved values times marks queuebytes queuecodes))
+    (hubAt h connected renamed flags front waiting (listed codes kinds names renames) (columns hasbutton hasaxis values times marks queuebytes queuecodes))
     batch at out events steps left
     (rest left₀ batch
     (standing
     (hubAt h connected₀ renamed₀ flags₀ front₀ waiting₀ (listed codes kinds names renames)
-    (columns touched₀ moved₀ values₀ times₀ marks queuebytes₀ queuecodes₀))
+    (columns hasbutton₀ hasaxis₀ values₀ times₀ marks queuebytes₀ queuecodes₀))
     at₀ out events steps₀))
     × (left ≤ left₀)
     × Placed codes lastpad lastcode last
 
 abbrev pub μ-loop2 : tie.MeasureT-loop2
-μ-loop2 codes kinds names renames touched₀ moved₀ values₀ times₀ marks queuebytes₀ queuecodes₀ batch place out allowance h refused
-    connected₀ renamed₀ flags₀ front₀ waiting₀ converts reconverts at₀ events steps₀ left₀ lastpad₀ lastcode₀ last₀ touched moved values times queuebytes queuecodes
+μ-loop2 codes kinds names renames hasbutton₀ hasaxis₀ values₀ times₀ marks queuebytes₀ queuecodes₀ batch place out allowance h refused
+    connected₀ renamed₀ flags₀ front₀ waiting₀ converts newconverts at₀ events steps₀ left₀ lastpad₀ lastcode₀ last₀ hasbutton hasaxis values times queuebytes queuecodes
     connected renamed flags front waiting at steps left lastpad lastcode last =
     left
 
 -- the outer loop: one kept event a turn
 abbrev pub Inv-loop : tie.InvT-loop
-Inv-loop codes kinds names renames touched₀ moved₀ values₀ times₀ marks₀ queuebytes₀ queuecodes₀ batch place out₀ allowance h refused
-    connected₀ renamed₀ flags₀ front₀ waiting₀ converts reconverts at₀ events₀ steps₀ left₀ lastpad₀ lastcode₀ last₀ touched moved values times marks queuebytes queuecodes
+Inv-loop codes kinds names renames hasbutton₀ hasaxis₀ values₀ times₀ marks₀ queuebytes₀ queuecodes₀ batch place out₀ allowance h refused
+    connected₀ renamed₀ flags₀ front₀ waiting₀ converts newconverts at₀ events₀ steps₀ left₀ lastpad₀ lastcode₀ last₀ hasbutton hasaxis values times marks queuebytes queuecodes
     out connected renamed flags front waiting at events steps left lastpad lastcode last =
     Going
-    (hubAt h connected renamed flags front waiting (listed codes kinds names renames) (columns touched moved values times marks queuebytes queuecodes))
+    (hubAt h connected renamed flags front waiting (listed codes kinds names renames) (columns hasbutton hasaxis values times marks queuebytes queuecodes))
     batch at out events steps left
     (rest left₀ batch
     (standing
     (hubAt h connected₀ renamed₀ flags₀ front₀ waiting₀ (listed codes kinds names renames)
-    (columns touched₀ moved₀ values₀ times₀ marks₀ queuebytes₀ queuecodes₀))
+    (columns hasbutton₀ hasaxis₀ values₀ times₀ marks₀ queuebytes₀ queuecodes₀))
     at₀ out₀ events₀ steps₀))
     × (length out ≡ length out₀)
     × Placed codes lastpad lastcode last
 
 abbrev pub μ-loop : tie.MeasureT-loop
-μ-loop codes kinds names renames touched₀ moved₀ values₀ times₀ marks₀ queuebytes₀ queuecodes₀ batch place out₀ allowance h refused
-    connected₀ renamed₀ flags₀ front₀ waiting₀ converts reconverts at₀ events₀ steps₀ left₀ lastpad₀ lastcode₀ last₀ touched moved values times marks queuebytes queuecodes
+μ-loop codes kinds names renames hasbutton₀ hasaxis₀ values₀ times₀ marks₀ queuebytes₀ queuecodes₀ batch place out₀ allowance h refused
+    connected₀ renamed₀ flags₀ front₀ waiting₀ converts newconverts at₀ events₀ steps₀ left₀ lastpad₀ lastcode₀ last₀ hasbutton hasaxis values times marks queuebytes queuecodes
     out connected renamed flags front waiting at events steps left lastpad lastcode last =
     left
 

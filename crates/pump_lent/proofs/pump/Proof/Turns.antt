@@ -3,7 +3,7 @@ use Prim.Native.Nat.{ℕ}
 use mathlib.Core.Bool.{Bool}
 use mathlib.Core.List.{List}
 use Rattle.rules.specs.declared.Hub.{Hub}
-use Rattle.rules.specs.Step.{lookedOf}
+use Rattle.rules.specs.Step.{nextRecordOf}
 use Rattle.steps.specs.Turns.{Turned}
 use Rattle.hub.specs.declared.Head.{Head}
 use Rattle.hub.specs.Lent.{columns, hubOf}
@@ -34,14 +34,14 @@ hub-served c =
     let o = mark.outer (mark.inner-at c) in
     let v = c .serve .last .1 .1 .1 .1 .1 .1 .1 .1 .1 in
     hubOf (head-served c) (mark.listed-in (mark.start o))
-    (columns (mark.touched-by j) (mark.moved-by j) (v .0) (v .1 .0) (o .loop .marks) (queuebytes-by c) (queuecodes-by c))
+    (columns (mark.hasbutton-by j) (mark.hasaxis-by j) (v .0) (v .1 .0) (o .loop .marks) (queuebytes-by c) (queuecodes-by c))
 
 -- ---- the turn
 
 pub turns :
     (c : At tie.After-serve) →
     let i = mark.inner-at c in
-    Turned (mark.hub-in i) (lookedOf (i .loop2 .waiting) (mark.batch-in (mark.outer i)) (i .loop2 .at)) (hub-served c) (c .serve .result .event)
+    Turned (mark.hub-in i) (nextRecordOf (i .loop2 .waiting) (mark.batch-in (mark.outer i)) (i .loop2 .at)) (hub-served c) (c .serve .result .event)
 turns c =
     let i = mark.inner-at c in
     let o = mark.outer i in
@@ -51,5 +51,5 @@ turns c =
     let m = mark.head-marked j in
     let s = mark.listed-in (mark.start o) in
     turn-served (mark.hub-in i) (mark.batch-in o) (i .loop2 .at) (mark.given y) (j .mark-joins .ensures)
-    (served-hub m s (mark.touched-by j) (mark.moved-by j) (o .loop .marks) d (c .serve .ensures))
-    (served-event m s (mark.touched-by j) (mark.moved-by j) (o .loop .marks) d (c .serve .ensures))
+    (served-hub m s (mark.hasbutton-by j) (mark.hasaxis-by j) (o .loop .marks) d (c .serve .ensures))
+    (served-event m s (mark.hasbutton-by j) (mark.hasaxis-by j) (o .loop .marks) d (c .serve .ensures))
