@@ -16,7 +16,7 @@ use Rattle.rules.specs.Calls.{freshHub, idleHub, newBy, newOf}
 use Rattle.columns.specs.Blank.{Blank}
 use Rattle.hub.specs.declared.Head.{Head}
 use Rattle.hub.specs.Lent.{Listed, Columns, listed, columns, hubOf, answered}
-use Rattle.desk_lent.specs.Heads.{freshHead}
+use Rattle.hub.specs.Heads.{freshHead}
 
 -- ---- by the refusal's number
 

@@ -21,7 +21,7 @@ use Rattle.rules.specs.Calls.{laid, rowCode, rowKind, rowName, rowElement, regi
 use Rattle.columns.specs.Columns.{elementsOf, buttonsOf, axesOf, slotsOf}
 use Rattle.layout.specs.Laid.{LaidOut}
 use Rattle.hub.specs.declared.Head.{Head}
-use Rattle.hub.specs.Lent.{Listed, listed, columns, hubOf, registered}
+use Rattle.hub.specs.Lent.{Listed, listed, columns, hubFrom, hubOf, registered}
 use Rattle.desk_lent.specs.Heads.{registeredHead}
 
 -- ---- by the refusal's number
@@ -69,36 +69,7 @@ module _ (h : Hub) (s : List ℕ) where
 -- the hub of a head, of the places' columns and of the lists of records. It stays shut while its parts are rewritten: open, each step would compute the law
 -- book's marks place by place
 unfoldable hubWith : Head → Listed → List Bool → List Bool → List Element → List ButtonData → List AxisData → List Slot → Hub
-hubWith d s touched moved elements buttons axes queue =
-    record {
-      pressed = d .pressed;
-      released = d .released;
-      reversed = d .reversed;
-      filters = d .filters;
-      updates = d .updates;
-      counter = d .counter;
-      pads = d .pads;
-      counts = d .counts;
-      connected = d .connected;
-      hats = d .hats;
-      converts = d .converts;
-      renamed = d .renamed;
-      rehats = d .rehats;
-      reconverts = d .reconverts;
-      codes = s .codes;
-      kinds = s .kinds;
-      names = s .names;
-      renames = s .renames;
-      elements = elements;
-      touched = touched;
-      buttons = buttons;
-      moved = moved;
-      axes = axes;
-      flags = d .flags;
-      queue = queue;
-      head = d .head;
-      waiting = d .waiting;
-    }
+hubWith d s touched moved elements buttons axes queue = hubFrom d s touched moved elements buttons axes queue
 
 hub-with :
     (d : Head) (s : Listed) (touched moved marks : List Bool) (values : List Float) (times queuebytes queuecodes : List ℕ) →

@@ -25,7 +25,7 @@ use Rattle.rules.specs.Events.{queuedOf, nameOf}
 use Rattle.rules.specs.State.{readPressed}
 use Rattle.rules.specs.Dispatch.{pressing, moving, joining, leaving, moveOf, axisName, from, single, pressGives, moveGives}
 use Rattle.rules.specs.Filters.{hatBy, hatGives}
-use Rattle.rules.specs.Hub.{placeIn, elementAt, pastElement, pressedAt, movedAt, hatPlace, viewAt, viewOf}
+use Rattle.rules.specs.Hub.{placeIn, elementAt, pastElement, pressedAt, movedAt, hatPlaceOf, hatPlace, viewAt, viewOf}
 use Rattle.rules.specs.Step.{takenOf, markedOf, recordKind, stepHub}
 use Rattle.promises.specs.Waiting.{waitingList}
 use Rattle.promises.specs.Queue.{Sound}
@@ -150,7 +150,7 @@ module _ (h : Hub) (w : Ready h) (desk : Desk h) (sound : Sound h) (p n : ℕ) (
         (subst₂ P (sym (hat-out (see e) (r .pad) (r .time) n (r .code) to converts)) (sym (hat-more (see e) (r .pad) (r .time) n (r .code) to converts)) t)
 
     read : (c : ℕ) → pressedAt seen (hatPlace seen (r .pad) n c) ≡ cellPressed (cellAt seen (placeOf (h .codes) p c))
-    unfolding hatPlace pressedAt readPressed cellAt
+    unfolding hatPlaceOf pressedAt readPressed cellAt
     read c =
         ap (λ (is-hat : Bool). pressedAt seen (cond is-hat (placeIn seen (r .pad) c) nowhere)) is-hat
         ∙ (ap (λ (q : ℕ). pressedAt seen (placeIn seen q c)) (m .pad) ∙ (unfold markedOf in refl))

@@ -12,7 +12,7 @@ use Rattle.rules.specs.Names.{nowhere, partnerOf}
 use Rattle.rules.specs.Places.{placeOf, namedOf, presentNames}
 use Rattle.rules.specs.Events.{nameOf, codeOf}
 use Rattle.rules.specs.State.{readValue}
-use Rattle.rules.specs.Hub.{placeIn, movedAt, valueAt, convertsNow, partnerPlace, viewAt, viewOf}
+use Rattle.rules.specs.Hub.{placeIn, movedAt, valueAt, convertsIn, convertsNow, partnerPlaceOf, partnerPlace, viewAt, viewOf}
 use Rattle.rules.specs.Step.{markedOf}
 use Rattle.registered.specs.Pads.{Desk}
 use Rattle.history.specs.Cells.{cellAt, cellValue}
@@ -30,13 +30,13 @@ module _ (h : Hub) (r : RawRecord) (w : Ready h) (desk : Desk h) (e : Event) whe
   names-are = ap (λ (b : Bool). cond b (marked .renames) (marked .names)) (marked-ready h r w .named (e .pad)) ∙ (unfold markedOf in refl)
 
   converts-are : convertsNow marked (e .pad) ≡ getD (h .converts) (e .pad) false
-  unfolding convertsNow
+  unfolding convertsIn
   converts-are =
       ap (λ (b : Bool). cond b (getD (marked .reconverts) (e .pad) false) (getD (marked .converts) (e .pad) false)) (marked-ready h r w .named (e .pad))
       ∙ (unfold markedOf in refl)
 
   pub partner-is : partnerPlace marked (e .pad) (nameOf e) ≡ cond (eqb (partnerOf (nameOf e)) 0) nowhere (namedOf (h .names) (e .pad) (partnerOf (nameOf e)))
-  unfolding partnerPlace
+  unfolding partnerPlaceOf
   partner-is = ap (λ (names : List ℕ). cond (eqb (partnerOf (nameOf e)) 0) nowhere (namedOf names (e .pad) (partnerOf (nameOf e)))) names-are
 
   partner-code : e .pad < h .pads → ltb (partnerPlace marked (e .pad) (nameOf e)) nowhere ≡ true

@@ -15,7 +15,7 @@ use Rattle.rules.specs.Names.{queueRoom}
 use Rattle.rules.specs.Places.{placeOf}
 use Rattle.rules.specs.Events.{nameOf}
 use Rattle.rules.specs.Filters.{filteredOf}
-use Rattle.rules.specs.Hub.{viewAt, viewOf, hatPlace, partnerPlace, convertsNow, pressedAt, valueAt, pastSlot, pastElement, pastButton, queueAfter, waitingAfter}
+use Rattle.rules.specs.Hub.{viewAt, viewOf, hatPlaceOf, partnerPlaceOf, convertsIn, pressedAt, valueAt, pastSlot, pastElement, pastButton, queueAfter, waitingAfter}
 use Rattle.rules.specs.Calls.{insertedAt}
 use Rattle.rules.specs.Step.{takenOf, markedOf, headAfter, pushesOf, flagsSet, pushedOf, filteredIn, turnedOf}
 use Rattle.gather.specs.declared.Found.{Found}

@@ -16,7 +16,7 @@ ghost use Rattle.rules.specs.Queries.{buttonByCode, buttonByName, axisByCode, a
 ghost use Rattle.gather.specs.Sight.{PlaceIs};
 ghost use Rattle.columns.specs.Columns.{buttonsOf, axesOf};
 ghost use Rattle.hub.specs.Lent.{Listed, Columns, listed, columns, hubOf};
-ghost use Rattle.queries_lent.specs.Button.{buttonPlaceOf};
+ghost use Rattle.rules.specs.Queries.{buttonPlaceOf};
 use columns::Marks;
 use columns::Times;
 use columns::Values;

@@ -44,12 +44,16 @@ unfolding standsOf placeOf pressedAt
 pressedByCode h p c = truthBy (padRefusal h p) (pressedAt h (placeIn h p c))
 
 -- "`is_pressed` by a name that no element has falls back to `to_nec`"
-unfoldable pub buttonPlace : Hub → ℕ → ℕ → ℕ
+unfoldable pub buttonPlaceOf : List ℕ → List ℕ → List ℕ → List Bool → ℕ → ℕ → ℕ
 unfolding placeOf namedOf presentNames toNec
-buttonPlace h p n = cond (ltb (namedIn h p n) nowhere) (namedIn h p n) (placeIn h p (toNec n))
+buttonPlaceOf codes names renames renamed p n =
+    let named = namedOf (presentNames names renames renamed p) p n in cond (ltb named nowhere) named (placeOf codes p (toNec n))
+
+abbrev pub buttonPlace : Hub → ℕ → ℕ → ℕ
+buttonPlace h p n = buttonPlaceOf (h .codes) (h .names) (h .renames) (h .renamed) p n
 
 unfoldable pub pressedByName : Hub → ℕ → ℕ → TruthAnswer
-unfolding buttonQueryRefusal buttonPlace pressedAt
+unfolding buttonQueryRefusal buttonPlaceOf pressedAt
 pressedByName h p n = truthBy (buttonQueryRefusal (h .pads) p n) (pressedAt h (buttonPlace h p n))
 
 unfoldable pub connectedOf : Hub → ℕ → TruthAnswer

@@ -1,5 +1,5 @@
 -- A step: it takes the queue's front, else the next raw record; the event passes the filters; what they queue waits; and the state is updated.
--- Each stage is one record that copies the fields it leaves alone. Definitions only. Assumes nothing.
+-- Each stage sets the fields that it means. Definitions only.
 use Prim.Native.Nat.{ℕ, zero, suc, _+_, _-_, _*_, _%_}
 use mathlib.Core.Bool.{Bool, true, false, cond, not, _&&_, _||_}
 use mathlib.Core.List.{List, [], _∷_, _++_}
@@ -24,6 +24,7 @@ use Rattle.rules.specs.Events.{nameOf, codeOf, queuedOf}
 use Rattle.rules.specs.Dispatch.{dispatchOf, single}
 use Rattle.rules.specs.Filters.{filteredOf}
 use Rattle.rules.specs.State.{buttonAfter, axisAfter, writesButton, writesAxis}
+use Rattle.rules.specs.Setters.{withMarks, withState, withFlags, withQueue}
 use Rattle.rules.specs.Hub.{placeIn, nameIn, kindAt, elementAt, buttonAt, axisAt, touchedAt, movedAt, pressedAt, frontOf, flagPlace, viewOf, queueAfter, waitingAfter}
 
 -- ---- the record looked at
@@ -82,35 +83,12 @@ headAfter head waiting = cond (ltb 0 waiting) ((head % queueRoom + 1) % queueRoo
 unfoldable pub markedOf : Hub → RawRecord → Hub
 unfolding connectedAfter renamedAfter joinRun headAfter clearedOf
 markedOf h r =
-    record {
-      pressed = h .pressed;
-      released = h .released;
-      reversed = h .reversed;
-      filters = h .filters;
-      updates = h .updates;
-      counter = h .counter;
-      pads = h .pads;
-      counts = h .counts;
-      connected = connectedAfter (h .connected) (r .pad) (r .kind);
-      hats = h .hats;
-      converts = h .converts;
-      renamed = renamedAfter (h .renamed) (r .pad) (r .kind);
-      rehats = h .rehats;
-      reconverts = h .reconverts;
-      codes = h .codes;
-      kinds = h .kinds;
-      names = h .names;
-      renames = h .renames;
-      elements = h .elements;
-      touched = clearedOf (h .touched) (placesPerPad * r .pad) (joinRun (r .kind) placesPerPad);
-      buttons = h .buttons;
-      moved = clearedOf (h .moved) (placesPerPad * r .pad) (joinRun (r .kind) placesPerPad);
-      axes = h .axes;
-      flags = clearedOf (h .flags) (flagsPerPad * r .pad) (joinRun (r .kind) flagsPerPad);
-      queue = h .queue;
-      head = headAfter (h .head) (h .waiting);
-      waiting = h .waiting - 1;
-    }
+    let joined = withMarks h (connectedAfter (h .connected) (r .pad) (r .kind)) (renamedAfter (h .renamed) (r .pad) (r .kind)) in
+    let run = placesPerPad * r .pad in
+    let places = joinRun (r .kind) placesPerPad in
+    let fresh = withState joined (clearedOf (h .touched) run places) (h .buttons) (clearedOf (h .moved) run places) (h .axes) in
+    let unflagged = withFlags fresh (clearedOf (h .flags) (flagsPerPad * r .pad) (joinRun (r .kind) flagsPerPad)) in
+    withQueue unflagged (h .queue) (headAfter (h .head) (h .waiting)) (h .waiting - 1)
 
 -- ---- what waits behind the event: the record's own, then the filters'
 
@@ -126,70 +104,18 @@ flagsSet flags p n f = set (set flags (flagPlace p n) (f .own)) (flagPlace p (pa
 unfoldable pub pushedOf : Hub → Event → Flags → List Event → Hub
 unfolding flagsSet nameOf queueAfter waitingAfter
 pushedOf h e f es =
-    record {
-      pressed = h .pressed;
-      released = h .released;
-      reversed = h .reversed;
-      filters = h .filters;
-      updates = h .updates;
-      counter = h .counter;
-      pads = h .pads;
-      counts = h .counts;
-      connected = h .connected;
-      hats = h .hats;
-      converts = h .converts;
-      renamed = h .renamed;
-      rehats = h .rehats;
-      reconverts = h .reconverts;
-      codes = h .codes;
-      kinds = h .kinds;
-      names = h .names;
-      renames = h .renames;
-      elements = h .elements;
-      touched = h .touched;
-      buttons = h .buttons;
-      moved = h .moved;
-      axes = h .axes;
-      flags = flagsSet (h .flags) (e .pad) (nameOf e) f;
-      queue = queueAfter (h .queue) (h .head) (h .waiting) es;
-      head = h .head;
-      waiting = waitingAfter (h .waiting) es;
-    }
+    withQueue (withFlags h (flagsSet (h .flags) (e .pad) (nameOf e) f)) (queueAfter (h .queue) (h .head) (h .waiting) es) (h .head)
+    (waitingAfter (h .waiting) es)
 
 -- ---- the state after an event, `update`; an event of no code, or one dropped, changes nothing
 
 unfoldable pub updatedAt : Bool → Hub → Event → ℕ → Hub
 unfolding buttonAfter axisAfter writesButton writesAxis
 updatedAt on h e k =
-    record {
-      pressed = h .pressed;
-      released = h .released;
-      reversed = h .reversed;
-      filters = h .filters;
-      updates = h .updates;
-      counter = h .counter;
-      pads = h .pads;
-      counts = h .counts;
-      connected = h .connected;
-      hats = h .hats;
-      converts = h .converts;
-      renamed = h .renamed;
-      rehats = h .rehats;
-      reconverts = h .reconverts;
-      codes = h .codes;
-      kinds = h .kinds;
-      names = h .names;
-      renames = h .renames;
-      elements = h .elements;
-      touched = set (h .touched) k (touchedAt h k || (on && writesButton e));
-      buttons = set (h .buttons) k (cond on (buttonAfter e (touchedAt h k) (buttonAt h k) (h .counter)) (buttonAt h k));
-      moved = set (h .moved) k (movedAt h k || (on && writesAxis e));
-      axes = set (h .axes) k (cond on (axisAfter e (axisAt h k) (h .counter)) (axisAt h k));
-      flags = h .flags;
-      queue = h .queue;
-      head = h .head;
-      waiting = h .waiting;
-    }
+    withState h (set (h .touched) k (touchedAt h k || (on && writesButton e)))
+    (set (h .buttons) k (cond on (buttonAfter e (touchedAt h k) (buttonAt h k) (h .counter)) (buttonAt h k)))
+    (set (h .moved) k (movedAt h k || (on && writesAxis e)))
+    (set (h .axes) k (cond on (axisAfter e (axisAt h k) (h .counter)) (axisAt h k)))
 
 unfoldable pub updatedOf : Bool → Hub → Event → Hub
 unfolding updatedAt codeOf placeOf

@@ -10,6 +10,7 @@ use Rattle.rules.specs.declared.Event.{Event}
 use Rattle.rules.specs.declared.EventType.the-variants.{Pressed}
 use Rattle.rules.specs.declared.Slot.{Slot}
 use Rattle.rules.specs.Events.{slotOf}
+use Rattle.rules.specs.Setters.{withQueue}
 use Rattle.rules.specs.Hub.{longerOf, slotAt, queueAfter, waitingAfter}
 use Rattle.turn.specs.Turn.{part}
 
@@ -20,35 +21,7 @@ pastEvent = record { pad = 0; time = 0; event = Pressed 0 0 }
 -- a hub with more events waiting
 unfoldable pub queuedHub : Hub → List Event → Hub
 queuedHub h es =
-    record {
-      pressed = h .pressed;
-      released = h .released;
-      reversed = h .reversed;
-      filters = h .filters;
-      updates = h .updates;
-      counter = h .counter;
-      pads = h .pads;
-      counts = h .counts;
-      connected = h .connected;
-      hats = h .hats;
-      converts = h .converts;
-      renamed = h .renamed;
-      rehats = h .rehats;
-      reconverts = h .reconverts;
-      codes = h .codes;
-      kinds = h .kinds;
-      names = h .names;
-      renames = h .renames;
-      elements = h .elements;
-      touched = h .touched;
-      buttons = h .buttons;
-      moved = h .moved;
-      axes = h .axes;
-      flags = h .flags;
-      queue = queueAfter (h .queue) (h .head) (h .waiting) es;
-      head = h .head;
-      waiting = waitingAfter (h .waiting) es;
-    }
+    withQueue h (queueAfter (h .queue) (h .head) (h .waiting) es) (h .head) (waitingAfter (h .waiting) es)
 
 part-cons : (es : List Event) (x end : ℕ) → x < end → end ≤ length es → part es x end ≡ getD es x pastEvent ∷ part es (x + 1) end
 part-cons es x end l h =
@@ -65,35 +38,7 @@ pub push-one :
     waiting ≡ longerOf (h .waiting) →
     queuedHub h (part es x end)
     ≡ queuedHub
-    (record {
-      pressed = h .pressed;
-      released = h .released;
-      reversed = h .reversed;
-      filters = h .filters;
-      updates = h .updates;
-      counter = h .counter;
-      pads = h .pads;
-      counts = h .counts;
-      connected = h .connected;
-      hats = h .hats;
-      converts = h .converts;
-      renamed = h .renamed;
-      rehats = h .rehats;
-      reconverts = h .reconverts;
-      codes = h .codes;
-      kinds = h .kinds;
-      names = h .names;
-      renames = h .renames;
-      elements = h .elements;
-      touched = h .touched;
-      buttons = h .buttons;
-      moved = h .moved;
-      axes = h .axes;
-      flags = h .flags;
-      queue = set (h .queue) free slot;
-      head = h .head;
-      waiting = waiting;
-    })
+    (withQueue h (set (h .queue) free slot) (h .head) waiting)
     (part es (x + 1) end)
 unfolding queuedHub queueAfter waitingAfter
 push-one h es x end l long eu ef es' ew = rw (part-cons es x end l long, ew, es', ef, eu)

@@ -22,6 +22,7 @@ use Rattle.rules.specs.Names.{placesPerPad, flagsPerPad, queueRoom, partnerOf}
 use Rattle.rules.specs.Places.{placeOf, clearedOf, oneIf}
 use Rattle.rules.specs.Events.{nameOf, codeOf}
 use Rattle.rules.specs.Filters.{filteredOf, keptOf}
+use Rattle.rules.specs.Setters.{withMarks, withState, withFlags, withQueue}
 use Rattle.rules.specs.Hub.{viewAt, viewOf, frontOf, flagPlace, pressedAt, elementAt, buttonAt, axisAt, pastSlot, pastElement, pastButton, pastAxis}
 use Rattle.rules.specs.Step.{lookedOf, takenOf, recordGives, markedOf, connectedAfter, renamedAfter, joinRun, headAfter, pushesOf, flagsSet, pushedOf, filteredIn, turnedOf, stepEvent, stepHub, updatedOf}
 use Rattle.rules.specs.Pump.{Progress, stepped, steppedBy, placeAfter, outAfter}
@@ -49,35 +50,7 @@ module _ (h : Hub) (r : RawRecord) where
       head ≡ headAfter (h .head) (h .waiting) →
       waiting ≡ h .waiting - 1 →
       _≡_ {A = Hub}
-      (record {
-        pressed = h .pressed;
-        released = h .released;
-        reversed = h .reversed;
-        filters = h .filters;
-        updates = h .updates;
-        counter = h .counter;
-        pads = h .pads;
-        counts = h .counts;
-        connected = connected;
-        hats = h .hats;
-        converts = h .converts;
-        renamed = renamed;
-        rehats = h .rehats;
-        reconverts = h .reconverts;
-        codes = h .codes;
-        kinds = h .kinds;
-        names = h .names;
-        renames = h .renames;
-        elements = h .elements;
-        touched = touched;
-        buttons = h .buttons;
-        moved = moved;
-        axes = h .axes;
-        flags = flagged;
-        queue = h .queue;
-        head = head;
-        waiting = waiting;
-      })
+      (withQueue (withFlags (withState (withMarks h connected renamed) touched (h .buttons) moved (h .axes)) flagged) (h .queue) head waiting)
       (markedOf h r)
   unfolding markedOf
   marked-is ep em ef ec er et ev eg eh ew = rw (ew, eh, eg, ev, et, er, ec, ef, em, ep)
@@ -123,35 +96,7 @@ module _ (m : Hub) (d : Dispatched) {name code : ℕ} {s : Sight} {v : View} {f 
       es ≡ pushesOf d (f .gives) →
       u
       ≡ queuedHub
-      (record {
-        pressed = m .pressed;
-        released = m .released;
-        reversed = m .reversed;
-        filters = m .filters;
-        updates = m .updates;
-        counter = m .counter;
-        pads = m .pads;
-        counts = m .counts;
-        connected = m .connected;
-        hats = m .hats;
-        converts = m .converts;
-        renamed = m .renamed;
-        rehats = m .rehats;
-        reconverts = m .reconverts;
-        codes = m .codes;
-        kinds = m .kinds;
-        names = m .names;
-        renames = m .renames;
-        elements = m .elements;
-        touched = m .touched;
-        buttons = m .buttons;
-        moved = m .moved;
-        axes = m .axes;
-        flags = both;
-        queue = m .queue;
-        head = m .head;
-        waiting = m .waiting;
-      })
+      (withFlags m both)
       es →
       u ≡ turnedOf m d
   unfolding turnedOf pushedOf queuedHub
@@ -211,35 +156,7 @@ pub turn-is :
     es ≡ pushesOf d (f .gives) →
     u
     ≡ queuedHub
-    (record {
-      pressed = h .pressed;
-      released = h .released;
-      reversed = h .reversed;
-      filters = h .filters;
-      updates = h .updates;
-      counter = h .counter;
-      pads = h .pads;
-      counts = h .counts;
-      connected = connected;
-      hats = h .hats;
-      converts = h .converts;
-      renamed = renamed;
-      rehats = h .rehats;
-      reconverts = h .reconverts;
-      codes = h .codes;
-      kinds = h .kinds;
-      names = h .names;
-      renames = h .renames;
-      elements = h .elements;
-      touched = touched;
-      buttons = h .buttons;
-      moved = moved;
-      axes = h .axes;
-      flags = both;
-      queue = h .queue;
-      head = head;
-      waiting = waiting;
-    })
+    (withQueue (withFlags (withState (withMarks h connected renamed) touched (h .buttons) moved (h .axes)) both) (h .queue) head waiting)
     es →
     Turned h l u z
 turn-is h l {head = head} {waiting = waiting} {connected = connected} {renamed = renamed} {touched = touched} {moved = moved} {flagged = flagged} {first = first} {d = d} {s = s} {v = v} {f = f} efound efront ed ep em eg ec er et ev ef eh ew en eo seen ein efil esent e1 e2 ez es eu =
@@ -249,35 +166,7 @@ turn-is h l {head = head} {waiting = waiting} {connected = connected} {renamed =
   where
     marked : Hub
     marked =
-        record {
-          pressed = h .pressed;
-          released = h .released;
-          reversed = h .reversed;
-          filters = h .filters;
-          updates = h .updates;
-          counter = h .counter;
-          pads = h .pads;
-          counts = h .counts;
-          connected = connected;
-          hats = h .hats;
-          converts = h .converts;
-          renamed = renamed;
-          rehats = h .rehats;
-          reconverts = h .reconverts;
-          codes = h .codes;
-          kinds = h .kinds;
-          names = h .names;
-          renames = h .renames;
-          elements = h .elements;
-          touched = touched;
-          buttons = h .buttons;
-          moved = moved;
-          axes = h .axes;
-          flags = flagged;
-          queue = h .queue;
-          head = head;
-          waiting = waiting;
-        }
+        withQueue (withFlags (withState (withMarks h connected renamed) touched (h .buttons) moved (h .axes)) flagged) (h .queue) head waiting
 
 same-filters : (h : Hub) (r : RawRecord) (d : Dispatched) → turnedOf (markedOf h r) d .filters ≡ h .filters
 unfolding turnedOf pushedOf markedOf

@@ -16,6 +16,7 @@ use Rattle.rules.specs.Places.{placeOf}
 use Rattle.rules.specs.Events.{codeOf, droppedType, isDropped}
 use Rattle.rules.specs.Filters.{keptOf}
 use Rattle.rules.specs.State.{buttonAfter, axisAfter, writesButton, writesAxis}
+use Rattle.rules.specs.Setters.{withState}
 use Rattle.rules.specs.Hub.{buttonAt, axisAt, touchedAt, movedAt, pastButton, pastAxis}
 use Rattle.rules.specs.Step.{updatedAt, updatedOf}
 
@@ -35,35 +36,7 @@ pub update-is :
     touched ≡ set (h .touched) i tt →
     moved ≡ set (h .moved) i vv →
     _≡_ {A = Hub}
-    (record {
-      pressed = h .pressed;
-      released = h .released;
-      reversed = h .reversed;
-      filters = h .filters;
-      updates = h .updates;
-      counter = h .counter;
-      pads = h .pads;
-      counts = h .counts;
-      connected = h .connected;
-      hats = h .hats;
-      converts = h .converts;
-      renamed = h .renamed;
-      rehats = h .rehats;
-      reconverts = h .reconverts;
-      codes = h .codes;
-      kinds = h .kinds;
-      names = h .names;
-      renames = h .renames;
-      elements = h .elements;
-      touched = touched;
-      buttons = set (h .buttons) i b;
-      moved = moved;
-      axes = set (h .axes) i a;
-      flags = h .flags;
-      queue = h .queue;
-      head = h .head;
-      waiting = h .waiting;
-    })
+    (withState h touched (set (h .buttons) i b) moved (set (h .axes) i a))
     (updatedOf on h e)
 unfolding updatedOf updatedAt
 update-is on h e em ei et ev eb ea ew ett ex evv etouched emoved =

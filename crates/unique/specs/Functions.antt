@@ -15,7 +15,8 @@ use Rattle.rules.specs.Forms.{fieldOf}
 use Rattle.rules.specs.Places.{namedOf, presentNames}
 use Rattle.rules.specs.Hub.{slotAt}
 use Rattle.pad.specs.Found.{Placed, Named}
-use Rattle.gather.specs.Sight.{PlaceIs, FoundIs, SightIs, hatPlaceOf, partnerPlaceOf}
+use Rattle.gather.specs.Sight.{PlaceIs, FoundIs, SightIs}
+use Rattle.rules.specs.Hub.{hatPlaceOf, partnerPlaceOf}
 use Rattle.hats.specs.Post.{Converted}
 use Rattle.filters.specs.Post.{Passed}
 use Rattle.filters.specs.Behind.{SentIs}

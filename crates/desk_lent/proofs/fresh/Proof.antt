@@ -1,6 +1,6 @@
 -- `desk_lent::fresh` meets its contract: each array is its one value throughout.
 use mathlib.Core.Path.{refl}
-use Rattle.desk_lent.specs.Heads.{freshHead}
+use Rattle.hub.specs.Heads.{freshHead}
 use Rattle.desk_lent.proofs.fresh.Statement.{statement}
 use Rattle.desk_lent.proofs.fresh.Tie as tie
 

@@ -1,5 +1,5 @@
 -- `gather::converts_now` meets its contract: by which column holds. Assumes nothing.
-use Rattle.gather.specs.Sight.{convertsIn}
+use Rattle.rules.specs.Hub.{convertsIn}
 use borrow.Author.Needs.{needs}
 use Rattle.gather.proofs.converts_now.Statement.{statement}
 use Rattle.gather.proofs.converts_now.Tie as tie

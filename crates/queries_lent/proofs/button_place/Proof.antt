@@ -1,6 +1,6 @@
 -- `queries_lent::button_place` meets its contract: by whether an element has the name.
 use borrow.Author.Tests.{lt-ltb, le-ltb}
-use Rattle.queries_lent.specs.Button.{buttonPlaceOf}
+use Rattle.rules.specs.Queries.{buttonPlaceOf}
 use borrow.Author.Needs.{needs}
 use Rattle.queries_lent.proofs.button_place.Statement.{statement}
 use Rattle.queries_lent.proofs.button_place.Tie as tie

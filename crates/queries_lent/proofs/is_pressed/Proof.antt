@@ -1,8 +1,7 @@
 -- `queries_lent::is_pressed` meets its contract: what the calls ensure, put together.
 use borrow.Author.Needs.{needs}
-use Rattle.rules.specs.Queries.{pressedByName, buttonPlace}
+use Rattle.rules.specs.Queries.{pressedByName, buttonPlaceOf}
 use Rattle.rules.specs.Hub.{pressedAt}
-use Rattle.queries_lent.specs.Button.{buttonPlaceOf}
 use Rattle.queries_lent.proofs.is_pressed.Statement.{statement}
 use Rattle.queries_lent.proofs.is_pressed.Tie as tie
 
@@ -16,7 +15,7 @@ pressed-at-requires : tie.Need-pressed-at-requires
 pressed-at-requires c κs = search needs
 
 returns : tie.Need-returns
-unfolding pressedByName buttonPlace buttonPlaceOf pressedAt
+unfolding pressedByName buttonPlaceOf pressedAt
 returns c kinds queuebytes queuecodes moved =
     rw (
       c .pressed-at .ensures,
