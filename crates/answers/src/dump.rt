@@ -4,17 +4,14 @@ use lines::NEWLINE;
 use lines::SPACE;
 use rules::AxisData;
 use rules::ButtonData;
+use rules::FLAGS_PER_PAD;
 use rules::Hub;
+use rules::NOWHERE;
+use rules::PADS;
+use rules::PLACES_PER_PAD;
 ghost use Prim.Native.Nat.{_≤_};
 
-const PADS: u8 = 4;
-
-const PLACES_PER_PAD: usize = 52;
-
-const FLAGS_PER_PAD: usize = 6;
 // the place that is no pad's
-const NOWHERE: usize = 208;
-
 // The i-th place of a pad.
 fn place(p: u8, i: usize) -> usize
     ensures { λ r. ⌜ r ≤ 208 ⌝ }

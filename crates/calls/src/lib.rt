@@ -13,8 +13,7 @@ use rules::Event;
 use rules::EventForm;
 use rules::EventRead;
 use rules::Hub;
-
-const MALFORMED: u8 = 8;
+use rules::MALFORMED;
 
 // ---- update: 8, 6, 9, 11, 12
 

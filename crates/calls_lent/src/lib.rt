@@ -18,8 +18,7 @@ use hub::Head;
 use rules::Answer;
 use rules::EventForm;
 use rules::EventRead;
-
-const MALFORMED: u8 = 8;
+use rules::MALFORMED;
 
 // ---- update: 8, 6, 9, 11, 12
 

@@ -4,9 +4,9 @@ ghost use mathlib.Core.Path.{_≡_};
 ghost use Rattle.rules.specs.Calls.{incOf, resetOf};
 ghost use Rattle.rules.specs.Repeat.{repeatOf};
 use rules::Hub;
+use rules::NOWHERE;
+use rules::PLACES_PER_PAD;
 use rules::RepeatAnswer;
-
-const PLACES_PER_PAD: usize = 52;
 
 // ---- the counter: "The counter goes from 2^62-1 to 0"
 
@@ -45,7 +45,7 @@ pub fn repeat(h: Hub, after: u64, every: u64, clock: u64) -> RepeatAnswer
     }
     let buttons = h.buttons;
     let place = repeat::first_due(&h.connected, &h.touched, buttons, after, every, clock);
-    if pad::NOWHERE <= place {
+    if NOWHERE <= place {
         return RepeatAnswer::Quiet;
     }
     let p = (place / PLACES_PER_PAD) as u8;

@@ -10,19 +10,15 @@ use rules::Answered;
 use rules::AxisData;
 use rules::ButtonData;
 use rules::Element;
+use rules::FLAGS_PER_PAD;
 use rules::Hub;
+use rules::NO_NAME;
+use rules::PADS;
+use rules::PLACES_PER_PAD;
 use rules::RegisterAnswer;
 use rules::Registered;
 use rules::Row;
 use rules::Slot;
-
-const PADS: u8 = 4;
-
-const PLACES_PER_PAD: usize = 52;
-
-const FLAGS_PER_PAD: usize = 6;
-
-const NO_NAME: u8 = 255;
 
 // ---- new
 

@@ -21,17 +21,14 @@ use hub::AnsweredHead;
 use hub::Head;
 use hub::RegisteredHead;
 use rules::Answer;
+use rules::COUNT_AT;
+use rules::FLAGS_PER_PAD;
+use rules::NO_NAME;
+use rules::PADS;
+use rules::PLACES_PER_PAD;
 use rules::RegisterAnswer;
 
-const PADS: u8 = 4;
-
-const PLACES_PER_PAD: usize = 52;
-
-const FLAGS_PER_PAD: usize = 6;
-
 const HATS_AT: usize = 3;
-
-const COUNT_AT: usize = 4;
 
 // ---- new
 
@@ -86,8 +83,8 @@ pub fn new_hub(
 {
     *codes = [0u32; 208];
     *kinds = [0u8; 208];
-    *names = [names::NO_NAME; 208];
-    *renames = [names::NO_NAME; 208];
+    *names = [NO_NAME; 208];
+    *renames = [NO_NAME; 208];
     *touched = [false; 208];
     *moved = [false; 208];
     columns::blank(values, times, marks, queuebytes, queuecodes);

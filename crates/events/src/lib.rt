@@ -1,8 +1,9 @@
 // Events as values: what an event holds by its cases, how it waits in the queue and comes back, and the event of a form's 22 bytes.
-use names::NO_NAME;
+use rules::EVENT_AXIS;
 use rules::Event;
 use rules::EventForm;
 use rules::EventType;
+use rules::NO_NAME;
 use rules::Slot;
 ghost use mathlib.Core.Path.{_≡_};
 ghost use Rattle.rules.specs.Events.{kindType, nameType, codeType, valueType, droppedType, kindOf, nameOf, codeOf, valueOf, typeOf, slotOf, eventOf, formOf, formEvent, isDropped};
@@ -17,8 +18,6 @@ pub const EVENT_RELEASED: u8 = 2;
 pub const EVENT_REPEATED: u8 = 3;
 
 pub const EVENT_CHANGED: u8 = 4;
-
-pub const EVENT_AXIS: u8 = 5;
 
 pub const EVENT_CONNECTED: u8 = 6;
 

@@ -3,6 +3,9 @@
 use libc::STDIN_FILENO;
 use libc::STDOUT_FILENO;
 use rules::EventRead;
+use rules::MALFORMED;
+use rules::PADS;
+use rules::PLACES_PER_PAD;
 
 // a case opens with its kind and the length of the rest in 4 bytes
 const OPENING: usize = 5;
@@ -12,12 +15,6 @@ const SHEET: u8 = 1;
 const RECORD: u8 = 2;
 
 const INSERTED: u8 = 4;
-
-const PADS: u8 = 4;
-
-const PLACES_PER_PAD: usize = 52;
-
-const MALFORMED: u8 = 8;
 
 // The pads of a case, their places' codes and kinds, and where what they meet begins.
 struct Met {

@@ -11,18 +11,16 @@ ghost use Rattle.rules.specs.Hub.{hatPlaceOf, partnerPlaceOf, convertsIn};
 ghost use Rattle.gather.specs.Sight.{FoundIs, SightIs, PlaceIs, cellOf, viewBy};
 use rules::AxisData;
 use rules::ButtonData;
+use rules::ELEMENT_AXIS;
 use rules::Element;
+use rules::FLAGS_PER_PAD;
 use rules::Flags;
+use rules::NOWHERE;
+use rules::PADS;
 use rules::Partner;
 use rules::View;
 
-const PADS: u8 = 4;
-
-const FLAGS_PER_PAD: usize = 6;
-
 const NO_FLAG: usize = 24;
-
-const ELEMENT_AXIS: u8 = 2;
 
 // ---- a record's element
 
@@ -98,7 +96,7 @@ pub fn hat_place(codes: &[u32; 208], p: u8, name: u8, code: u32) -> usize
     if names::is_hat(name) {
         pad::place_of(codes, p, code)
     } else {
-        pad::NOWHERE
+        NOWHERE
     }
 }
 
@@ -131,7 +129,7 @@ pub fn partner_place<'a>(
 {
     let partner = names::partner_of(name);
     if partner == 0 {
-        pad::NOWHERE
+        NOWHERE
     } else {
         present_place(names, renames, renamed, p, partner)
     }
@@ -278,7 +276,7 @@ pub fn view_of(
         threshold: element.threshold,
         own: state::read_value(own.moved, a, own.touched, b),
         partner: Partner {
-            stands: partner.place < pad::NOWHERE,
+            stands: partner.place < NOWHERE,
             code: s.code,
             value: state::read_value(partner.moved, partneraxis, partner.touched, partnerbutton),
         },

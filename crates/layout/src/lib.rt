@@ -1,8 +1,14 @@
 // How registration lays a sheet out: the pad's 52 places in code order, the sheet's elements with the directions that it does not list merged in.
 use columns::Marks;
 use columns::Values;
+use rules::COUNT_AT;
+use rules::ELEMENT_BUTTON;
+use rules::ELEMENT_SIZE;
 use rules::Element;
+use rules::NO_NAME;
+use rules::PLACES_PER_PAD;
 use rules::Row;
+use rules::SHEET_OPENING;
 use rules::SheetElement;
 ghost use mathlib.Core.Path.{_≡_};
 ghost use mathlib.Core.Bool.{true, cond, not};
@@ -16,17 +22,7 @@ ghost use Rattle.rules.specs.Calls.{renamesAfter};
 ghost use Rattle.layout.specs.Good.{Good};
 ghost use Rattle.layout.specs.Laid.{LaidOut};
 
-const SHEET_OPENING: usize = 5;
-
-const ELEMENT_SIZE: usize = 18;
-
-const COUNT_AT: usize = 4;
-
-const ELEMENT_BUTTON: u8 = 1;
-
 const DIRECTIONS: u32 = 4;
-
-const PLACES_PER_PAD: usize = 52;
 
 // ---- a row
 
@@ -88,7 +84,7 @@ fn unlisted_row(code: u32) -> Row
     Row {
         code: code,
         kind: 0,
-        name: names::NO_NAME,
+        name: NO_NAME,
         element: none,
     }
 }
@@ -220,7 +216,7 @@ fn name_given(kind: u8, list: &[u8], i: usize) -> u8
     ensures { λ r. ⌜ r ≡ cond (eqb kind 0) noName (getD (now (list .entry)) i 0) ⌝ }
 {
     if kind == 0 {
-        return names::NO_NAME;
+        return NO_NAME;
     }
     if i < list.len() { list[i] } else { 0 }
 }

@@ -1,14 +1,14 @@
 // Lines of text on lent slices: each function appends to a buffer at a place and answers the next place. Where the buffer has no room it writes
 // nothing and answers the same place, so nothing is asked of a caller.
-use events::EVENT_AXIS;
 use events::EVENT_CHANGED;
 use events::EVENT_CONNECTED;
 use events::EVENT_DISCONNECTED;
 use events::EVENT_PRESSED;
 use events::EVENT_RELEASED;
 use events::EVENT_REPEATED;
+use rules::EVENT_AXIS;
+use rules::EVENT_SIZE;
 use rules::EventForm;
-use wire::EVENT_SIZE;
 ghost use mathlib.Core.Path.{_≡_};
 ghost use Prim.Native.Nat.{_+_, _*_, _≤_};
 ghost use mathlib.Core.List.{_++_};

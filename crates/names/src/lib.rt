@@ -32,8 +32,6 @@ pub const DPAD_X: u8 = 39;
 
 pub const DPAD_Y: u8 = 40;
 
-pub const NO_NAME: u8 = 255;
-
 // ---- directions
 
 pub const CODE_UP: u32 = 0x00010220;

@@ -1,7 +1,7 @@
 // What the calls of a course did, counted and printed.
 use libc::STDOUT_FILENO;
 use rules::PumpAnswer;
-use wire::RECORD_SIZE;
+use rules::RECORD_SIZE;
 
 // The pump calls, those of them that drained, the records they took, the events they wrote and the steps they made; the refused calls of any kind;
 // and how many events the last pump call wrote.

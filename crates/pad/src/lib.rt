@@ -7,13 +7,12 @@ ghost use lib.ListN.{getD, set};
 ghost use Rattle.rules.specs.Names.{noName, placesPerPad, nowhere};
 ghost use Rattle.rules.specs.Places.{codeNamed, directionNamed, convertsOf, clearedOf};
 ghost use Rattle.pad.specs.Found.{Placed, Named, Halved, Sought, Scanned};
+use rules::NO_NAME;
+use rules::NOWHERE;
+use rules::PADS;
+use rules::PLACES_PER_PAD;
 
-const PADS: u8 = 4;
-
-const PLACES_PER_PAD: usize = 52;
 // The place of a code or a name that is not there: one past the last pad's places.
-pub const NOWHERE: usize = 208;
-
 const ALL_HATS: u8 = 15;
 
 // ---- the place of a code
@@ -163,7 +162,7 @@ pub fn kind_at(kinds: &[u8; 208], place: usize) -> u8
 pub fn name_at(names: &[u8; 208], place: usize) -> u8
     ensures { λ r. ⌜ r ≡ getD (now (names .entry)) place noName ⌝ }
 {
-    byte_in(names, place, names::NO_NAME)
+    byte_in(names, place, NO_NAME)
 }
 
 pub fn code_at(codes: &[u32; 208], place: usize) -> u32
@@ -252,7 +251,7 @@ fn code_named<'a>(codes: &'a [u32; 208], names: &'a [u8; 208], pad: u8, code: u3
     ensures { λ r. ⌜ r ≡ codeNamed (now (codes .entry)) (now (names .entry)) pad code ⌝ }
 {
     let place = place_of(codes, pad, code);
-    name_at(names, place) != names::NO_NAME
+    name_at(names, place) != NO_NAME
 }
 
 fn direction_named<'a>(codes: &'a [u32; 208], names: &'a [u8; 208], pad: u8) -> bool

@@ -24,20 +24,16 @@ use columns::Values;
 use filters::Sent;
 use gather::Found;
 use rules::Dispatched;
+use rules::ELEMENT_AXIS;
 use rules::Event;
 use rules::EventType;
+use rules::FLAGS_PER_PAD;
 use rules::Flags;
+use rules::KIND_CONNECTED;
+use rules::PLACES_PER_PAD;
 use rules::Partner;
 use rules::RawRecord;
 use rules::View;
-
-const ELEMENT_AXIS: u8 = 2;
-
-const KIND_CONNECTED: u8 = 4;
-
-const PLACES_PER_PAD: usize = 52;
-
-const FLAGS_PER_PAD: usize = 6;
 
 // ---- what is taken
 

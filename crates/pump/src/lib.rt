@@ -2,15 +2,12 @@
 ghost use mathlib.Core.Path.{_≡_};
 ghost use Rattle.rules.specs.Pump.{pumpOf};
 ghost use Rattle.steps.specs.Runs.{leaves};
+use rules::EVENT_SIZE;
+use rules::FLAGS_PER_PAD;
 use rules::Hub;
+use rules::PLACES_PER_PAD;
 use rules::PumpAnswer;
 use rules::Pumped;
-
-const EVENT_SIZE: usize = 22;
-
-const PLACES_PER_PAD: usize = 52;
-
-const FLAGS_PER_PAD: usize = 6;
 
 pub fn pump(hub: Hub, batch: &[u8], place: usize, out: &mut [u8], allowance: u16) -> Pumped
     ensures { λ r. ⌜ leaves r (now (out .exit)) ≡ pumpOf hub (now (batch .entry)) place (now (out .entry)) allowance ⌝ }

@@ -11,9 +11,8 @@ use columns::Times;
 use columns::Values;
 use hub::Head;
 use hub::PumpedHead;
+use rules::EVENT_SIZE;
 use rules::PumpAnswer;
-
-const EVENT_SIZE: usize = 22;
 
 pub fn pump<'s>(
     head: Head,

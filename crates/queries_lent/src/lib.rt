@@ -25,11 +25,12 @@ use rules::AxisAnswer;
 use rules::AxisData;
 use rules::ButtonAnswer;
 use rules::ButtonData;
+use rules::ELEMENT_AXIS;
+use rules::NO_NAME;
+use rules::NOWHERE;
 use rules::NumberAnswer;
 use rules::TruthAnswer;
 use rules::ValueAnswer;
-
-const ELEMENT_AXIS: u8 = 2;
 
 // ---- an answer: the refusal's number, else what was asked for, else that it is absent
 
@@ -202,7 +203,7 @@ fn button_place<'a>(
     ensures { λ r. ⌜ PlaceIs (buttonPlaceOf (now (codes .entry)) (now (names .entry)) (now (renames .entry)) (now (renamed .entry)) p name) r ⌝ }
 {
     let place = gather::present_place(names, renames, renamed, p, name);
-    if place < pad::NOWHERE {
+    if place < NOWHERE {
         place
     } else {
         pad::place_of(codes, p, names::to_nec(name))
@@ -399,7 +400,7 @@ pub fn axis_or_btn_name<'s>(
     let refusal = refusals::pad_refusal(head.pads, p);
     let place = pad::place_of(codes, p, code);
     let name = gather::present_name(names, renames, &head.renamed, p, place);
-    number(refusal, name != names::NO_NAME, name as u32)
+    number(refusal, name != NO_NAME, name as u32)
 }
 
 // 000's `button_code` and `axis_code`: the name's byte says which.
@@ -419,7 +420,7 @@ pub fn code_of_name<'s>(
     let refusal = refusals::name_query_refusal(head.pads, p, name);
     let place = gather::present_place(names, renames, &head.renamed, p, name);
     let code = pad::code_at(codes, place);
-    number(refusal, place < pad::NOWHERE, code)
+    number(refusal, place < NOWHERE, code)
 }
 
 // ---- the head

@@ -7,13 +7,15 @@ ghost use Rattle.rules.specs.Refusals.{buttonQueryRefusal, axisQueryRefusal, na
 ghost use Rattle.rules.specs.Refusals as Refusals;
 ghost use mathlib.Core.Bool.{cond, _&&_, _||_};
 ghost use lib.Dec.{eqb};
+use rules::ELEMENT_AXIS;
+use rules::ELEMENT_BUTTON;
+use rules::EVENT_AXIS;
 use rules::EventForm;
+use rules::KIND_AXIS;
 use rules::Looked;
+use rules::NOWHERE;
+use rules::PADS;
 use rules::RawRecord;
-
-const PADS: u8 = 4;
-
-const NOWHERE: usize = 208;
 
 const LAST_TIME: u64 = 0x3fff_ffff_ffff_ffff;
 
@@ -24,15 +26,7 @@ const BUFFER_LIMIT: usize = 16_384;
 const INSERT_LIMIT: u8 = 16;
 
 // kinds of raw records and of events up to which a code is carried
-const KIND_AXIS: u8 = 3;
-
-const EVENT_AXIS: u8 = 5;
-
 // kinds of elements
-const ELEMENT_BUTTON: u8 = 1;
-
-const ELEMENT_AXIS: u8 = 2;
-
 // ---- in order: a number where the input does not fit, and the first number that there is
 
 pub fn unless_fits(fits: bool, number: u8) -> u8

@@ -8,11 +8,10 @@ ghost use Rattle.repeat.specs.Post.{Scanned};
 use rules::ButtonData;
 use rules::Event;
 use rules::EventType;
+use rules::PLACES_PER_PAD;
 
 // the places of the four pads together, and of one pad
 const PLACES: usize = 208;
-
-const PLACES_PER_PAD: usize = 52;
 
 // `after` for the first repeat, `every` from then on
 fn wait(b: ButtonData, after: u64, every: u64) -> u64

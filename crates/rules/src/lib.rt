@@ -1,5 +1,52 @@
 // The types of the desk hub: what events, records, sheets, the hub and its answers are. No function: the rules stand in specs/ as definitions.
 
+// ---- the numbers of document 01
+
+pub const PADS: u8 = 4;
+
+// a pad's places: 48 elements and the four directions
+pub const PLACES_PER_PAD: usize = 52;
+
+// the place of a code that no pad has: one past the last
+pub const NOWHERE: usize = 208;
+
+// the deadzone flags of a pad, one for each stick's axis
+pub const FLAGS_PER_PAD: usize = 6;
+
+// ---- a sheet: opening, and elements of one size
+
+pub const SHEET_OPENING: usize = 5;
+
+// where a sheet has its count of elements
+pub const COUNT_AT: usize = 4;
+
+pub const ELEMENT_SIZE: usize = 18;
+
+pub const ELEMENT_BUTTON: u8 = 1;
+
+pub const ELEMENT_AXIS: u8 = 2;
+
+pub const NO_NAME: u8 = 255;
+
+// ---- a record, and an event
+
+pub const RECORD_SIZE: usize = 21;
+
+pub const KIND_AXIS: u8 = 3;
+
+pub const KIND_CONNECTED: u8 = 4;
+
+pub const KIND_DISCONNECTED: u8 = 5;
+
+pub const EVENT_SIZE: usize = 22;
+
+pub const EVENT_AXIS: u8 = 5;
+
+// the refusal of bytes that are not of their form
+pub const MALFORMED: u8 = 8;
+
+// ---- events, records, elements, the hub
+
 // What an event says. The cases that hold a value hold name, code and value; a button's name is 0..19, an axis's 32..40.
 pub enum EventType {
     Pressed(u8, u32),

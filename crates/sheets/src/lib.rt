@@ -1,7 +1,11 @@
 // Pad sheets and rename lists read from lent bytes: the sheet's hats and elements, or the refusals 3, 4 and 5 in that order.
-use names::NO_NAME;
 use refusals::first;
 use refusals::unless_fits;
+use rules::ELEMENT_AXIS;
+use rules::ELEMENT_BUTTON;
+use rules::ELEMENT_SIZE;
+use rules::NO_NAME;
+use rules::SHEET_OPENING;
 use rules::SheetElement;
 use rules::SheetRead;
 ghost use mathlib.Core.Path.{_≡_};
@@ -14,16 +18,9 @@ ghost use Rattle.rules.specs.Sheets.{elementFields, elementOf, sheetFits, isZer
 
 // ---- sizes, kinds and limits
 
-const SHEET_OPENING: usize = 5;
-
-const ELEMENT_SIZE: usize = 18;
-
 // where in an element its name stands
 const NAME_OFFSET: usize = 5;
 
-const ELEMENT_BUTTON: u8 = 1;
-
-const ELEMENT_AXIS: u8 = 2;
 // "Elements per pad 0..48"; "hats 0..15"; "Deadzone 0..16,777,215 or absent"
 const ELEMENT_LIMIT: u8 = 48;
 

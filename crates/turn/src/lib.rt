@@ -14,22 +14,18 @@ use gather::Found;
 use rules::AxisData;
 use rules::ButtonData;
 use rules::Dispatched;
+use rules::EVENT_SIZE;
 use rules::Element;
 use rules::Event;
+use rules::KIND_CONNECTED;
+use rules::KIND_DISCONNECTED;
 use rules::Looked;
 use rules::PumpAnswer;
+use rules::RECORD_SIZE;
 use rules::RawRecord;
 use rules::Slot;
 
-const EVENT_SIZE: usize = 22;
-
-const RECORD_SIZE: usize = 21;
-
 const QUEUE_ROOM: u8 = 64;
-
-const KIND_CONNECTED: u8 = 4;
-
-const KIND_DISCONNECTED: u8 = 5;
 
 // reasons to stop
 const GO_ON: u8 = 0;

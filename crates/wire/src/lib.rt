@@ -1,13 +1,18 @@
 // The byte forms of document 01, "ours, big-endian": fields of every width, raw records and events read, and events written.
-use events::EVENT_AXIS;
 use events::EVENT_CHANGED;
 use events::EVENT_DROPPED;
 use events::EVENT_PRESSED;
-use names::NO_NAME;
+use rules::EVENT_AXIS;
+use rules::EVENT_SIZE;
 use rules::Event;
 use rules::EventForm;
 use rules::EventRead;
+use rules::KIND_AXIS;
+use rules::KIND_CONNECTED;
+use rules::KIND_DISCONNECTED;
 use rules::Looked;
+use rules::NO_NAME;
+use rules::RECORD_SIZE;
 use rules::RawRecord;
 use rules::RecordRead;
 ghost use mathlib.Core.Path.{_≡_};
@@ -23,17 +28,8 @@ ghost use Rattle.wire.specs.Bytes.{swappedOf, laidOut};
 
 const VERSION: u8 = 1;
 
-pub const RECORD_SIZE: usize = 21;
-
-pub const EVENT_SIZE: usize = 22;
 // of raw records: 1 pressed, 2 released, 3 axis, 4 connected, 5 disconnected
 const KIND_PRESSED: u8 = 1;
-
-const KIND_AXIS: u8 = 3;
-
-const KIND_CONNECTED: u8 = 4;
-
-const KIND_DISCONNECTED: u8 = 5;
 
 // ---- fields
 
