@@ -53,7 +53,7 @@ fn buttons(h: Hub, text: &mut [u8], at: usize, p: u8) -> usize {
         next = button(
             text,
             next,
-            pad::bool_at(&h.touched, k),
+            pad::bool_at(&h.hasbutton, k),
             pad::code_at(&h.codes, k),
             b,
         );
@@ -72,7 +72,7 @@ fn sticks(h: Hub, text: &mut [u8], at: usize, p: u8) -> usize {
         next = stick(
             text,
             next,
-            pad::bool_at(&h.moved, k),
+            pad::bool_at(&h.hasaxis, k),
             pad::code_at(&h.codes, k),
             a,
         );
@@ -100,7 +100,7 @@ fn flags(flags: &[bool; 24], text: &mut [u8], at: usize, p: u8) -> usize {
 // The present hats: a rename's until the next Connected.
 fn hats(h: Hub, p: u8) -> u8 {
     if pad::pad_bool(&h.renamed, p) {
-        return pad::pad_number(&h.rehats, p);
+        return pad::pad_number(&h.newhats, p);
     }
     pad::pad_number(&h.hats, p)
 }

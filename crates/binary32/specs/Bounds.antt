@@ -1,5 +1,5 @@
 -- What follows from `IsRoot` for a caller: the root is above 0, it lies on the same side of every value of binary32 as the real root, so a root that is a value is met exactly,
--- and no two values are the root of one x. Assumes nothing.
+-- and no two values are the root of one x.
 use mathlib.Core.Path.{_≡_, refl, sym, ap, _∙_}
 use mathlib.Core.Bool.{false}
 use Prim.Native.Nat.{ℕ, _+_, _*_, _^_, _≤_, _<_}

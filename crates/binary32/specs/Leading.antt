@@ -1,4 +1,4 @@
--- The bits of a finite number, taken apart and put together: what the code's steps say of n units. Assumes nothing.
+-- The bits of a finite number, taken apart and put together: what the code's steps say of n units.
 use mathlib.Core.Path.{_≡_, refl, sym, ap, _∙_, subst}
 use mathlib.Core.Bool.{Bool, true, false, cond}
 use Prim.Native.Nat.{ℕ, zero, suc, _+_, _-_, _*_, _/_, _%_, _^_, _≤_, _<_}

@@ -1,4 +1,4 @@
--- The theorem that says what `sqrtOf` is: for a finite x above 0 it is the value of binary32 that is nearest to the real root of x. Assumes nothing.
+-- The theorem that says what `sqrtOf` is: for a finite x above 0 it is the value of binary32 that is nearest to the real root of x.
 use mathlib.Core.Path.{_≡_, sym, ap, _∙_, subst}
 use mathlib.Core.Logic.{_⊎_, inl, inr}
 use mathlib.Core.Bool.{true, false}

@@ -1,4 +1,4 @@
--- Newton's step for the whole root: from any s above 0 the next number, (s + w / s) / 2, is no less than the root's whole part, and where it is no less than s, s * s ≤ w. Assumes nothing.
+-- Newton's step for the whole root: from any s above 0 the next number, (s + w / s) / 2, is no less than the root's whole part, and where it is no less than s, s * s ≤ w.
 use mathlib.Core.Path.{_≡_, ap, subst}
 use mathlib.Core.Bool.{Bool, true, false, not}
 use Prim.Native.Nat.{ℕ, _+_, _-_, _*_, _/_, _≤_, _<_}

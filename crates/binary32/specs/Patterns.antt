@@ -1,4 +1,4 @@
--- Between a bit pattern and the root: what `sqrtOf` says of the value that a pattern stands for, and the pattern of a rounded root. Assumes nothing.
+-- Between a bit pattern and the root: what `sqrtOf` says of the value that a pattern stands for, and the pattern of a rounded root.
 use mathlib.Core.Path.{_≡_, refl, sym, ap, _∙_, subst}
 use mathlib.Core.Bool.{Bool, true, false, not, cond}
 use mathlib.Core.Logic.{_⊎_, inl, inr}

@@ -1,4 +1,4 @@
--- The values of binary32 as whole numbers of units of 2 ^ -149: each is d * 2 ^ j units, with d of at most 24 digits. Assumes nothing.
+-- The values of binary32 as whole numbers of units of 2 ^ -149: each is d * 2 ^ j units, with d of at most 24 digits.
 use mathlib.Core.Path.{_≡_, refl, sym, ap, _∙_, subst}
 use mathlib.Core.Logic.{_⊎_, inl, inr}
 use mathlib.Core.Bool.{Bool, true, false, not, _&&_}

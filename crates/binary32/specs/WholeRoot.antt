@@ -1,4 +1,4 @@
--- The laws of the whole root: r * r ≤ w < (r + 1) * (r + 1) for r = root 24 w 0, and only for it; and what rounding it to the nearest says. Assumes nothing.
+-- The laws of the whole root: r * r ≤ w < (r + 1) * (r + 1) for r = root 24 w 0, and only for it; and what rounding it to the nearest says.
 use mathlib.Core.Path.{_≡_, sym, ap, _∙_, subst}
 use mathlib.Core.Bool.{Bool, true, false, not, cond}
 use Prim.Native.Nat.{ℕ, zero, suc, _+_, _-_, _*_, _^_, _≤_, _<_}

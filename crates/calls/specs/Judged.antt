@@ -1,5 +1,5 @@
 -- What update and insert_event put together, over what their calls answer: refused by a number other than 0, or done. By the number's two cases,
--- and by putting equals for equals. Assumes nothing.
+-- and by putting equals for equals.
 use Prim.Native.Nat.{ℕ, zero, suc}
 use mathlib.Core.Path.{_≡_, refl}
 use mathlib.Core.Bool.{Bool, true, _&&_, _||_, cond}
@@ -15,7 +15,7 @@ use Rattle.rules.specs.declared.Answered.{Answered}
 use Rattle.rules.specs.Events.{codeOf, formEvent}
 use Rattle.rules.specs.State.{buttonAfter, axisAfter, writesButton, writesAxis}
 use Rattle.rules.specs.Refusals.{formRefusal, insertRefusal}
-use Rattle.rules.specs.Hub.{placeIn, buttonAt, axisAt, touchedAt, movedAt}
+use Rattle.rules.specs.Hub.{placeIn, buttonAt, axisAt, hasButtonAt, hasAxisAt}
 use Rattle.rules.specs.Step.{updatedAt, updatedOf}
 use Rattle.rules.specs.Calls.{formPlace, updateFormBy, insertFormBy}
 
@@ -47,7 +47,7 @@ update-done h f e1 e2 e3 e4 e5 e6 e7 = rw (← e1, ← e2, e3, e7, e6, e5, e4)
 
 -- the hub with other button records and axis records
 unfoldable pub recordsOf : Hub → List Bool → List ButtonData → List Bool → List AxisData → Hub
-recordsOf h touched buttons moved axes =
+recordsOf h hasbutton buttons hasaxis axes =
     record {
       pressed = h .pressed;
       released = h .released;
@@ -61,16 +61,16 @@ recordsOf h touched buttons moved axes =
       hats = h .hats;
       converts = h .converts;
       renamed = h .renamed;
-      rehats = h .rehats;
-      reconverts = h .reconverts;
+      newhats = h .newhats;
+      newconverts = h .newconverts;
       codes = h .codes;
       kinds = h .kinds;
       names = h .names;
       renames = h .renames;
       elements = h .elements;
-      touched = touched;
+      hasbutton = hasbutton;
       buttons = buttons;
-      moved = moved;
+      hasaxis = hasaxis;
       axes = axes;
       flags = h .flags;
       queue = h .queue;
@@ -79,17 +79,17 @@ recordsOf h touched buttons moved axes =
     }
 
 pub updated-is :
-    (h : Hub) (e : Event) (k : ℕ) {touched moved touches moves presses turns : Bool} {b : ButtonData} {a : AxisData} {ts ms : List Bool} →
-    touched ≡ touchedAt h k →
-    moved ≡ movedAt h k →
-    b ≡ cond true (buttonAfter e touched (buttonAt h k) (h .counter)) (buttonAt h k) →
+    (h : Hub) (e : Event) (k : ℕ) {hasbutton hasaxis touches moves presses turns : Bool} {b : ButtonData} {a : AxisData} {ts ms : List Bool} →
+    hasbutton ≡ hasButtonAt h k →
+    hasaxis ≡ hasAxisAt h k →
+    b ≡ cond true (buttonAfter e hasbutton (buttonAt h k) (h .counter)) (buttonAt h k) →
     a ≡ cond true (axisAfter e (axisAt h k) (h .counter)) (axisAt h k) →
     presses ≡ writesButton e →
-    touches ≡ (touched || (true && presses)) →
+    touches ≡ (hasbutton || (true && presses)) →
     turns ≡ writesAxis e →
-    moves ≡ (moved || (true && turns)) →
-    ts ≡ set (h .touched) k touches →
-    ms ≡ set (h .moved) k moves →
+    moves ≡ (hasaxis || (true && turns)) →
+    ts ≡ set (h .hasbutton) k touches →
+    ms ≡ set (h .hasaxis) k moves →
     recordsOf h ts (set (h .buttons) k b) ms (set (h .axes) k a) ≡ updatedAt true h e k
 unfolding recordsOf updatedAt
 updated-is h e k e1 e2 e3 e4 e5 e6 e7 e8 e9 e10 = rw (e10, e9, e8, e7, e6, e5, e4, e3, e2, e1)

@@ -23,18 +23,18 @@ fn updated(h: Hub, e: Event, place: usize) -> Hub
     ensures { λ r. ⌜ r ≡ updatedAt true h e place ⌝ }
 {
     let mut g = h;
-    let touched = pad::bool_at(&g.touched, place);
-    let moved = pad::bool_at(&g.moved, place);
+    let hasbutton = pad::bool_at(&g.hasbutton, place);
+    let hasaxis = pad::bool_at(&g.hasaxis, place);
     let b = g.buttons[place];
     let a = g.axes[place];
-    let button = turn::button_written(true, e, touched, b, g.counter);
+    let button = turn::button_written(true, e, hasbutton, b, g.counter);
     let axis = turn::axis_written(true, e, a, g.counter);
-    let touches = turn::known_after(touched, true, state::writes_button(e));
-    let moves = turn::known_after(moved, true, state::writes_axis(e));
+    let touches = turn::known_after(hasbutton, true, state::writes_button(e));
+    let moves = turn::known_after(hasaxis, true, state::writes_axis(e));
     g.buttons[place] = button;
     g.axes[place] = axis;
-    pad::mark(&mut g.touched, place, touches);
-    pad::mark(&mut g.moved, place, moves);
+    pad::mark(&mut g.hasbutton, place, touches);
+    pad::mark(&mut g.hasaxis, place, moves);
     g
 }
 

@@ -26,8 +26,8 @@ use rules::MALFORMED;
 fn update_form(
     head: Head,
     codes: &[u32; 208],
-    touched: &mut [bool; 208],
-    moved: &mut [bool; 208],
+    hasbutton: &mut [bool; 208],
+    hasaxis: &mut [bool; 208],
     values: &mut Values,
     times: &mut Times,
     marks: &mut Marks,
@@ -35,9 +35,9 @@ fn update_form(
 ) -> Answer
     ensures { λ r. ⌜ ((kinds names renames queuebytes queuecodes : List ℕ) →
         answered head (listed (now (codes .entry)) kinds names renames)
-        (columns (now (touched .exit)) (now (moved .exit)) (now (values .exit)) (now (times .exit)) (now (marks .exit)) queuebytes queuecodes) r
+        (columns (now (hasbutton .exit)) (now (hasaxis .exit)) (now (values .exit)) (now (times .exit)) (now (marks .exit)) queuebytes queuecodes) r
         ≡ updateForm (hubOf head (listed (now (codes .entry)) kinds names renames)
-        (columns (now (touched .entry)) (now (moved .entry)) (now (values .entry)) (now (times .entry)) (now (marks .entry)) queuebytes queuecodes)) f) ⌝ }
+        (columns (now (hasbutton .entry)) (now (hasaxis .entry)) (now (values .entry)) (now (times .entry)) (now (marks .entry)) queuebytes queuecodes)) f) ⌝ }
 {
     let place = pad::place_of(codes, f.pad, f.code);
     let refusal = refusals::form_refusal(f, head.pads, place);
@@ -47,8 +47,8 @@ fn update_form(
     let e = events::form_event(f);
     let at = pad::place_of(codes, e.pad, events::code_of(e));
     cells::update(
-        touched,
-        moved,
+        hasbutton,
+        hasaxis,
         values,
         times,
         marks,
@@ -64,8 +64,8 @@ fn update_form(
 pub fn update(
     head: Head,
     codes: &[u32; 208],
-    touched: &mut [bool; 208],
-    moved: &mut [bool; 208],
+    hasbutton: &mut [bool; 208],
+    hasaxis: &mut [bool; 208],
     values: &mut Values,
     times: &mut Times,
     marks: &mut Marks,
@@ -73,14 +73,14 @@ pub fn update(
 ) -> Answer
     ensures { λ r. ⌜ ((kinds names renames queuebytes queuecodes : List ℕ) →
         answered head (listed (now (codes .entry)) kinds names renames)
-        (columns (now (touched .exit)) (now (moved .exit)) (now (values .exit)) (now (times .exit)) (now (marks .exit)) queuebytes queuecodes) r
+        (columns (now (hasbutton .exit)) (now (hasaxis .exit)) (now (values .exit)) (now (times .exit)) (now (marks .exit)) queuebytes queuecodes) r
         ≡ updateOf (hubOf head (listed (now (codes .entry)) kinds names renames)
-        (columns (now (touched .entry)) (now (moved .entry)) (now (values .entry)) (now (times .entry)) (now (marks .entry)) queuebytes queuecodes))
+        (columns (now (hasbutton .entry)) (now (hasaxis .entry)) (now (values .entry)) (now (times .entry)) (now (marks .entry)) queuebytes queuecodes))
         (now (event .entry))) ⌝ }
 {
     let read = wire::read_event(event);
     match read {
-        EventRead::Form(f) => update_form(head, codes, touched, moved, values, times, marks, f),
+        EventRead::Form(f) => update_form(head, codes, hasbutton, hasaxis, values, times, marks, f),
         EventRead::Malformed => Answer::Refused(MALFORMED),
     }
 }
@@ -96,11 +96,11 @@ fn insert_form(
     queuecodes: &mut QueueCodes,
     f: EventForm,
 ) -> AnsweredHead
-    ensures { λ r. ⌜ ((kinds names renames : List ℕ) (touched moved marks : List Bool) →
+    ensures { λ r. ⌜ ((kinds names renames : List ℕ) (hasbutton hasaxis marks : List Bool) →
         answered (r .head) (listed (now (codes .entry)) kinds names renames)
-        (columns touched moved (now (values .exit)) (now (times .exit)) marks (now (queuebytes .exit)) (now (queuecodes .exit))) (r .answer)
+        (columns hasbutton hasaxis (now (values .exit)) (now (times .exit)) marks (now (queuebytes .exit)) (now (queuecodes .exit))) (r .answer)
         ≡ insertForm (hubOf head (listed (now (codes .entry)) kinds names renames)
-        (columns touched moved (now (values .entry)) (now (times .entry)) marks (now (queuebytes .entry)) (now (queuecodes .entry)))) f) ⌝ }
+        (columns hasbutton hasaxis (now (values .entry)) (now (times .entry)) marks (now (queuebytes .entry)) (now (queuecodes .entry)))) f) ⌝ }
 {
     let mut h = head;
     let place = pad::place_of(codes, f.pad, f.code);
@@ -129,11 +129,11 @@ pub fn insert_event(
     queuecodes: &mut QueueCodes,
     event: &[u8],
 ) -> AnsweredHead
-    ensures { λ r. ⌜ ((kinds names renames : List ℕ) (touched moved marks : List Bool) →
+    ensures { λ r. ⌜ ((kinds names renames : List ℕ) (hasbutton hasaxis marks : List Bool) →
         answered (r .head) (listed (now (codes .entry)) kinds names renames)
-        (columns touched moved (now (values .exit)) (now (times .exit)) marks (now (queuebytes .exit)) (now (queuecodes .exit))) (r .answer)
+        (columns hasbutton hasaxis (now (values .exit)) (now (times .exit)) marks (now (queuebytes .exit)) (now (queuecodes .exit))) (r .answer)
         ≡ insertOf (hubOf head (listed (now (codes .entry)) kinds names renames)
-        (columns touched moved (now (values .entry)) (now (times .entry)) marks (now (queuebytes .entry)) (now (queuecodes .entry))))
+        (columns hasbutton hasaxis (now (values .entry)) (now (times .entry)) marks (now (queuebytes .entry)) (now (queuecodes .entry))))
         (now (event .entry))) ⌝ }
 {
     let read = wire::read_event(event);

@@ -1,5 +1,4 @@
 -- What a case of the stored list says: its words and marks, the event that stands at a word, and whether an event is that one. Definitions only.
--- Assumes nothing.
 use Prim.Native.Nat.{ℕ, _+_, _*_, _/_, _%_}
 use mathlib.Core.Bool.{Bool, _&&_}
 use mathlib.Core.List.{List}

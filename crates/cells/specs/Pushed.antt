@@ -48,8 +48,8 @@ waitingHead d waiting =
       hats = d .hats;
       converts = d .converts;
       renamed = d .renamed;
-      rehats = d .rehats;
-      reconverts = d .reconverts;
+      newhats = d .newhats;
+      newconverts = d .newconverts;
       flags = d .flags;
       head = d .head;
       waiting = waiting;
@@ -57,8 +57,8 @@ waitingHead d waiting =
 
 -- the hub is the law book's with the event waiting
 pub pushed-hub :
-    (d : Head) (s : Listed) (touched moved marks : List Bool) {vs vs' : List Float} {ts ts' bs bs' cs cs' : List ℕ} {e : Event} {r : ℕ} →
+    (d : Head) (s : Listed) (hasbutton hasaxis marks : List Bool) {vs vs' : List Float} {ts ts' bs bs' cs cs' : List ℕ} {e : Event} {r : ℕ} →
     Pushed vs ts bs cs (d .head) (d .waiting) e vs' ts' bs' cs' r →
-    hubOf (waitingHead d r) s (columns touched moved vs' ts' marks bs' cs') ≡ insertedAt (hubOf d s (columns touched moved vs ts marks bs cs)) e
+    hubOf (waitingHead d r) s (columns hasbutton hasaxis vs' ts' marks bs' cs') ≡ insertedAt (hubOf d s (columns hasbutton hasaxis vs ts marks bs cs)) e
 unfolding insertedAt queueAfter waitingAfter
-pushed-hub d s touched moved marks p = let q = p .slot in rw (p .longer, q .slots, q .buttons marks, q .axes, q .elements marks)
+pushed-hub d s hasbutton hasaxis marks p = let q = p .slot in rw (p .longer, q .slots, q .buttons marks, q .axes, q .elements marks)

@@ -56,26 +56,26 @@ module _ (vs : List Float) (ts : List ℕ) (ms : List Bool) (k : ℕ) (on : Bool
 
 -- the records, and the marks that they stand
 pub record Updated
-    (touched moved : List Bool) (vs : List Float) (ts : List ℕ) (ms : List Bool) (k : ℕ) (on : Bool) (e : Event) (counter : ℕ)
-    (touched' moved' : List Bool) (vs' : List Float) (ts' : List ℕ) (ms' : List Bool) :
+    (hasbutton hasaxis : List Bool) (vs : List Float) (ts : List ℕ) (ms : List Bool) (k : ℕ) (on : Bool) (e : Event) (counter : ℕ)
+    (hasbutton' hasaxis' : List Bool) (vs' : List Float) (ts' : List ℕ) (ms' : List Bool) :
     Type 0 where
-  pub touches : touched' ≡ set touched k (getD touched k false || (on && writesButton e))
-  pub moves : moved' ≡ set moved k (getD moved k false || (on && writesAxis e))
-  pub records : Written vs ts ms k on e (getD touched k false) counter vs' ts' ms'
+  pub touches : hasbutton' ≡ set hasbutton k (getD hasbutton k false || (on && writesButton e))
+  pub moves : hasaxis' ≡ set hasaxis k (getD hasaxis k false || (on && writesAxis e))
+  pub records : Written vs ts ms k on e (getD hasbutton k false) counter vs' ts' ms'
 
 pub updated-is :
-    {touched moved touched' moved' : List Bool} {vs vs' : List Float} {ts ts' : List ℕ} {ms ms' : List Bool} {k counter : ℕ} {on : Bool} {e : Event}
+    {hasbutton hasaxis hasbutton' hasaxis' : List Bool} {vs vs' : List Float} {ts ts' : List ℕ} {ms ms' : List Bool} {k counter : ℕ} {on : Bool} {e : Event}
     {known sticks presses turns pressed placed : Bool} →
-    known ≡ getD touched k false →
-    sticks ≡ getD moved k false →
+    known ≡ getD hasbutton k false →
+    sticks ≡ getD hasaxis k false →
     Written vs ts ms k on e known counter vs' ts' ms' →
     presses ≡ writesButton e →
     pressed ≡ (known || (on && presses)) →
     turns ≡ writesAxis e →
     placed ≡ (sticks || (on && turns)) →
-    touched' ≡ set touched k pressed →
-    moved' ≡ set moved k placed →
-    Updated touched moved vs ts ms k on e counter touched' moved' vs' ts' ms'
+    hasbutton' ≡ set hasbutton k pressed →
+    hasaxis' ≡ set hasaxis k placed →
+    Updated hasbutton hasaxis vs ts ms k on e counter hasbutton' hasaxis' vs' ts' ms'
 updated-is {vs = vs} {vs'} {ts} {ts'} {ms} {ms'} {k} {counter} {on} {e} ek es w eb ep ea eq et em =
     record {
       touches = rw (et, ep, eb, ek);
@@ -85,10 +85,10 @@ updated-is {vs = vs} {vs'} {ts} {ts'} {ms} {ms'} {k} {counter} {on} {e} ek es w 
 
 -- the hub is the law book's after the event
 pub updated-hub :
-    (d : Head) (s : Listed) (bytes codes : List ℕ) {touched moved touched' moved' : List Bool} {vs vs' : List Float} {ts ts' : List ℕ} {ms ms' : List Bool}
+    (d : Head) (s : Listed) (bytes codes : List ℕ) {hasbutton hasaxis hasbutton' hasaxis' : List Bool} {vs vs' : List Float} {ts ts' : List ℕ} {ms ms' : List Bool}
     {k : ℕ} {on : Bool} {e : Event} →
-    Updated touched moved vs ts ms k on e (d .counter) touched' moved' vs' ts' ms' →
-    hubOf d s (columns touched' moved' vs' ts' ms' bytes codes) ≡ updatedAt on (hubOf d s (columns touched moved vs ts ms bytes codes)) e k
+    Updated hasbutton hasaxis vs ts ms k on e (d .counter) hasbutton' hasaxis' vs' ts' ms' →
+    hubOf d s (columns hasbutton' hasaxis' vs' ts' ms' bytes codes) ≡ updatedAt on (hubOf d s (columns hasbutton hasaxis vs ts ms bytes codes)) e k
 unfolding updatedAt
 updated-hub d s bytes codes p =
     let r = p .records in rw (p .touches, p .moves, r .buttons, r .axes, r .elements, r .slots bytes codes)

@@ -5,7 +5,7 @@ ghost use Prim.Native.Nat.{_≤_};
 ghost use lib.ListN.{getD};
 ghost use Rattle.rules.specs.Names.{nowhere};
 ghost use Rattle.rules.specs.Hub.{pastElement, pastButton, pastAxis};
-ghost use Rattle.gather.specs.Sight.{viewBy};
+ghost use Rattle.gather.specs.EventPlaces.{viewBy};
 ghost use Rattle.columns.specs.Columns.{elementsOf, buttonsOf, axesOf};
 ghost use Rattle.cells.specs.Written.{Written, Updated};
 ghost use Rattle.cells.specs.Pushed.{Pushed};
@@ -14,12 +14,12 @@ use columns::QueueBytes;
 use columns::QueueCodes;
 use columns::Times;
 use columns::Values;
-use gather::Sight;
+use gather::EventPlaces;
 use rules::Event;
 use rules::View;
 
 // The view, with what stands at the places: the own element and records, the two directions' button records, the partner's records.
-pub fn view_in(values: &Values, times: &Times, marks: &Marks, s: Sight) -> View
+pub fn view_in(values: &Values, times: &Times, marks: &Marks, s: EventPlaces) -> View
     requires { ⌜ (s .own .place ≤ nowhere) × (s .positive .place ≤ nowhere) × (s .negative .place ≤ nowhere) × (s .partner .place ≤ nowhere) ⌝ }
     ensures { λ r. ⌜ r ≡ viewBy s (getD (elementsOf (now (values .entry)) (now (marks .entry))) (s .own .place) pastElement)
         (getD (buttonsOf (now (values .entry)) (now (times .entry)) (now (marks .entry))) (s .own .place) pastButton)
@@ -80,8 +80,8 @@ fn write(
 
 // The same, and the marks that they stand: `on` says whether updates are on.
 pub fn update(
-    touched: &mut [bool; 208],
-    moved: &mut [bool; 208],
+    hasbutton: &mut [bool; 208],
+    hasaxis: &mut [bool; 208],
     values: &mut Values,
     times: &mut Times,
     marks: &mut Marks,
@@ -91,16 +91,16 @@ pub fn update(
     counter: u64,
 )
     requires { ⌜ k ≤ nowhere ⌝ }
-    ensures { λ _. ⌜ Updated (now (touched .entry)) (now (moved .entry)) (now (values .entry)) (now (times .entry)) (now (marks .entry)) k on e counter
-        (now (touched .exit)) (now (moved .exit)) (now (values .exit)) (now (times .exit)) (now (marks .exit)) ⌝ }
+    ensures { λ _. ⌜ Updated (now (hasbutton .entry)) (now (hasaxis .entry)) (now (values .entry)) (now (times .entry)) (now (marks .entry)) k on e counter
+        (now (hasbutton .exit)) (now (hasaxis .exit)) (now (values .exit)) (now (times .exit)) (now (marks .exit)) ⌝ }
 {
-    let known = pad::bool_at(touched, k);
-    let sticks = pad::bool_at(moved, k);
+    let known = pad::bool_at(hasbutton, k);
+    let sticks = pad::bool_at(hasaxis, k);
     write(values, times, marks, k, on, e, known, counter);
     let pressed = turn::known_after(known, on, state::writes_button(e));
     let placed = turn::known_after(sticks, on, state::writes_axis(e));
-    pad::mark(touched, k, pressed);
-    pad::mark(moved, k, placed);
+    pad::mark(hasbutton, k, pressed);
+    pad::mark(hasaxis, k, placed);
 }
 
 // ---- the queue

@@ -1,5 +1,4 @@
 // Small decisions as values. A caller that calls them has one way through its code where a branch would leave two, and its proof has one case.
-// Assumes nothing.
 ghost use mathlib.Core.Path.{_≡_};
 ghost use mathlib.Core.Bool.{cond, _&&_, _||_};
 ghost use Prim.Native.Nat.{min, _<_};

@@ -1,5 +1,4 @@
 -- What repeat puts together, over what its calls answer: refused, quiet, or an event. By the number's two cases, and by putting equals for equals.
--- Assumes nothing.
 use Prim.Native.Nat.{ℕ, zero, suc, _≤_, _<_, _/_}
 use mathlib.Core.Path.{_≡_, refl}
 use mathlib.Core.Bool.{Bool}

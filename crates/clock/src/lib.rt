@@ -44,15 +44,15 @@ pub fn repeat(h: Hub, after: u64, every: u64, clock: u64) -> RepeatAnswer
         return RepeatAnswer::Refused(refusal);
     }
     let buttons = h.buttons;
-    let place = repeat::first_due(&h.connected, &h.touched, buttons, after, every, clock);
+    let place = repeat::first_due(&h.connected, &h.hasbutton, buttons, after, every, clock);
     if NOWHERE <= place {
         return RepeatAnswer::Quiet;
     }
     let p = (place / PLACES_PER_PAD) as u8;
     let name = gather::present_name(&h.names, &h.renames, &h.renamed, p, place);
     let code = pad::code_at(&h.codes, place);
-    let touched = pad::bool_at(&h.touched, place);
+    let hasbutton = pad::bool_at(&h.hasbutton, place);
     let b = h.buttons[place];
-    let e = repeat::repeated(p, name, code, b, touched, after, every, clock);
+    let e = repeat::repeated(p, name, code, b, hasbutton, after, every, clock);
     RepeatAnswer::Due(e)
 }

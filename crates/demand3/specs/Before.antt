@@ -7,8 +7,8 @@ use lib.ListN.{length, length-append}
 use native.Mathlib.Omega.{arith}
 use borrow.Author.Tests.{lt-ltb}
 use Rattle.rules.specs.declared.Hub.{Hub}
-use Rattle.rules.specs.declared.Looked.{Looked}
-use Rattle.rules.specs.Step.{lookedOf, stepHub}
+use Rattle.rules.specs.declared.NextRecord.{NextRecord}
+use Rattle.rules.specs.Step.{nextRecordOf, stepHub}
 use Rattle.rules.specs.Pump.{Progress, placeAfter, steppedBy, stepped, pumpOf}
 use Rattle.promises.specs.Waiting.{restOf, waiting-length, ring-length}
 use Rattle.promises.specs.Queue.{pushesIn}
@@ -17,7 +17,7 @@ use Rattle.promises.specs.Machines.{said, placeSaid, stepsSaid}
 use Rattle.promises.specs.Runs.{Goes, pump-holds}
 
 -- a step takes at most one of what waits
-step-waits : (h : Hub) (l : Looked) → Reached h → h .waiting ≤ stepHub h l .waiting + 1
+step-waits : (h : Hub) (l : NextRecord) → Reached h → h .waiting ≤ stepHub h l .waiting + 1
 unfolding restOf
 step-waits h l w =
     let kept = ap length (reached-keeps l w) ∙ length-append (restOf h) (pushesIn h l) in
@@ -38,7 +38,7 @@ record Serves (place waited : ℕ) (p : Progress) : Type 0 where
 serves-on : (s : List ℕ) (place waited left : ℕ) (p : Progress) → Goes (suc left) s p → Serves place waited p → Serves place waited (stepped s p)
 unfolding stepped steppedBy
 serves-on s place waited left p goes w =
-    let l = lookedOf (p .hub .waiting) s (p .at) in
+    let l = nextRecordOf (p .hub .waiting) s (p .at) in
     record {
       reached = step l (w .reached);
       stays =

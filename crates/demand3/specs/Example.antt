@@ -32,11 +32,11 @@ pushed = new padlog then register sheet then pump (move (negsuc 0) 100) 0 room a
 unfoldable pub example : Script
 example = new padlog then register sheet then pump (move (negsuc 0) 100 ++ move (pos 1) 200) 0 room allowed
 
-abbrev pub moved : ℤ → ℕ → RawRecord
-moved value time = record { kind = kindAxis; pad = 0; code = 0x00030010; value = value; time = time }
+abbrev pub hasaxis : ℤ → ℕ → RawRecord
+hasaxis value time = record { kind = kindAxis; pad = 0; code = 0x00030010; value = value; time = time }
 
 -- the records taken, the newest first
-pub taken : recordsOf pumpOf example ≡ moved (pos 1) 200 ∷ moved (negsuc 0) 100 ∷ []
+pub taken : recordsOf pumpOf example ≡ hasaxis (pos 1) 200 ∷ hasaxis (negsuc 0) 100 ∷ []
 unfolding example padlog sheet move recordsOf newOf registerOf pumpOf recordsFrom Ieee.ofBits Ieee.lt Ieee.le Ieee.eq Ieee.ne Ieee.ofInt Ieee.sub Ieee.mul Ieee.div Ieee.neg Ieee.add
 taken = refl
 
@@ -46,7 +46,7 @@ six = refl
 
 -- what the rule says, from those and the sheet
 abbrev pub rule : ℕ → Rule
-rule c = ruleReads padlog (sheetRead sheet) 0 c (moved (pos 1) 200 ∷ moved (negsuc 0) 100 ∷ [])
+rule c = ruleReads padlog (sheetRead sheet) 0 c (hasaxis (pos 1) 200 ∷ hasaxis (negsuc 0) 100 ∷ [])
 
 pub rule-right : rule codeRight ≡ says (held true)
 unfolding padlog sheet ruleReads sheetRead hatsOf countOf elementOf directionReads hatValue axisScaledOf listedRow isDirection Ieee.ofBits Ieee.lt Ieee.le Ieee.eq Ieee.ne Ieee.ofInt Ieee.sub Ieee.mul Ieee.div Ieee.neg Ieee.add
@@ -60,7 +60,7 @@ rule-up : rule codeUp ≡ says (held false)
 unfolding padlog sheet ruleReads sheetRead hatsOf countOf elementOf directionReads hatValue axisScaledOf listedRow isDirection Ieee.ofBits Ieee.lt Ieee.le Ieee.eq Ieee.ne Ieee.ofInt Ieee.sub Ieee.mul Ieee.div Ieee.neg Ieee.add
 rule-up = refl
 
-pub rule-pushed : ruleReads padlog (sheetRead sheet) 0 codeLeft (moved (negsuc 0) 100 ∷ []) ≡ says (held true)
+pub rule-pushed : ruleReads padlog (sheetRead sheet) 0 codeLeft (hasaxis (negsuc 0) 100 ∷ []) ≡ says (held true)
 unfolding padlog sheet ruleReads sheetRead hatsOf countOf elementOf directionReads hatValue axisScaledOf listedRow isDirection Ieee.ofBits Ieee.lt Ieee.le Ieee.eq Ieee.ne Ieee.ofInt Ieee.sub Ieee.mul Ieee.div Ieee.neg Ieee.add
 rule-pushed = refl
 

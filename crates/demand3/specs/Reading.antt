@@ -20,7 +20,7 @@ use Rattle.rules.specs.Names.{padLimit, nowhere, isAxis, isButton, isHat, dpadX
 use Rattle.rules.specs.Sheets.{elementButton, elementAxis, countOf, elementOf}
 use Rattle.rules.specs.Places.{directions, listedRow}
 use Rattle.rules.specs.State.{readPressed, readValue}
-use Rattle.rules.specs.Hub.{placeIn, kindAt, elementAt, pressedAt, valueAt, touchedAt, movedAt}
+use Rattle.rules.specs.Hub.{placeIn, kindAt, elementAt, pressedAt, valueAt, hasButtonAt, hasAxisAt}
 use Rattle.rules.specs.Queries.{pressedByCode}
 use Rattle.registered.specs.Directions.{direction-found}
 use Rattle.registered.specs.Unlisted.{not-found}
@@ -199,13 +199,13 @@ module _ {h : Hub} {rs : List RawRecord} (w : Played h rs) (p : ℕ) (old : p < 
         nowhere-reads : at ≡ nowhere → Reads h p c nothing
         unfolding pressedAt valueAt readPressed readValue
         nowhere-reads past =
-            let long = ready w .long .touched in
-            let wide = ready w .long .moved in
-            let touched : touchedAt h at ≡ false = List·getD-eq-default (h .touched) false {n = at} (omega arith) in
-            let moved : movedAt h at ≡ false = List·getD-eq-default (h .moved) false {n = at} (omega arith) in
+            let long = ready w .long .hasbutton in
+            let wide = ready w .long .hasaxis in
+            let hasbutton : hasButtonAt h at ≡ false = List·getD-eq-default (h .hasbutton) false {n = at} (omega arith) in
+            let hasaxis : hasAxisAt h at ≡ false = List·getD-eq-default (h .hasaxis) false {n = at} (omega arith) in
             record {
-              pressed = asked-pressed h p c ∙ (standing-truth (h .pads) p _ old stands ∙ ap truthAnswer.Is (rw touched));
-              value = asked-value h p c ∙ (standing-value (h .pads) p _ old stands ∙ ap valueAnswer.Value (rw (moved, touched)));
+              pressed = asked-pressed h p c ∙ (standing-truth (h .pads) p _ old stands ∙ ap truthAnswer.Is (rw hasbutton));
+              value = asked-value h p c ∙ (standing-value (h .pads) p _ old stands ∙ ap valueAnswer.Value (rw (hasaxis, hasbutton)));
             }
 
         nothing-reads : (direction : Bool) → isDirection c ≡ direction → (converts sheet && isDirection c) ≡ false → Reads h p c nothing

@@ -24,7 +24,7 @@ use Rattle.promises.specs.Machines.{Machine, sheet, move, said, eventsSaid, ste
 use Rattle.history.specs.Rule.{byteLimit, Bytes, recordsFrom, Reading, held}
 use Rattle.history.specs.Truth.{true-false}
 use Rattle.demand3.specs.Demand3.{Script, Allowed, play, settingsOf, recordsOf, sheetRead, sheetsOf, noSheet, says, ruleReads, Demand3}
-use Rattle.demand3.specs.Example.{padlog, pushed, example, moved, rule-right, rule-pushed}
+use Rattle.demand3.specs.Example.{padlog, pushed, example, hasaxis, rule-right, rule-pushed}
 
 -- ---- bytes
 
@@ -105,7 +105,7 @@ leaves-none : play leaves pushed .waiting ≡ 0
 unfolding leaves pushed padlog sheet play newOf registerOf Ieee.ofBits Ieee.lt Ieee.le Ieee.eq Ieee.ne Ieee.ofInt Ieee.sub Ieee.mul Ieee.div Ieee.neg Ieee.add
 leaves-none = refl
 
-leaves-records : recordsOf leaves pushed ≡ moved (negsuc 0) 100 ∷ []
+leaves-records : recordsOf leaves pushed ≡ hasaxis (negsuc 0) 100 ∷ []
 unfolding leaves pushed padlog sheet move recordsOf recordsFrom recordFields newOf registerOf Ieee.ofBits Ieee.lt Ieee.le Ieee.eq Ieee.ne Ieee.ofInt Ieee.sub Ieee.mul Ieee.div Ieee.neg Ieee.add
 leaves-records = refl
 
@@ -123,7 +123,7 @@ advances-none : play onlyAdvances example .waiting ≡ 0
 unfolding onlyAdvances example padlog sheet move play newOf registerOf pumpOf Ieee.ofBits Ieee.lt Ieee.le Ieee.eq Ieee.ne Ieee.ofInt Ieee.sub Ieee.mul Ieee.div Ieee.neg Ieee.add
 advances-none = refl
 
-advances-records : recordsOf onlyAdvances example ≡ moved (pos 1) 200 ∷ moved (negsuc 0) 100 ∷ []
+advances-records : recordsOf onlyAdvances example ≡ hasaxis (pos 1) 200 ∷ hasaxis (negsuc 0) 100 ∷ []
 unfolding onlyAdvances example padlog sheet move recordsOf recordsFrom newOf registerOf pumpOf Ieee.ofBits Ieee.lt Ieee.le Ieee.eq Ieee.ne Ieee.ofInt Ieee.sub Ieee.mul Ieee.div Ieee.neg Ieee.add
 advances-records = refl
 

@@ -1,5 +1,4 @@
 -- The calls of `desk` put together: what each of their parts answers is the law book's hub and answer. One law a call and outcome, over plain variables.
--- Assumes nothing.
 use Prim.Native.Nat.{ℕ, zero, suc, _+_, _*_, _≤_, _<_}
 use mathlib.Core.Path.{_≡_, refl, sym, _∙_, ap}
 use mathlib.Core.Bool.{Bool, true, false, cond}
@@ -51,7 +50,7 @@ module _ (pressed released : Float) (reversed filters updates : Bool) {number : 
 -- ---- register
 
 pub registered-is :
-    (h : Hub) (p hats count : ℕ) (rows : List Row) {g : Hub} {w v : ℕ} {conv : Bool} {counts hats' : List ℕ} {connected converts renamed touched moved flags : List Bool} →
+    (h : Hub) (p hats count : ℕ) (rows : List Row) {g : Hub} {w v : ℕ} {conv : Bool} {counts hats' : List ℕ} {connected converts renamed hasbutton hasaxis flags : List Bool} →
     w ≡ p →
     g ≡ laidHub h (placesPerPad * w) rows →
     conv ≡ convertsOf hats (g .codes) (g .names) p →
@@ -60,8 +59,8 @@ pub registered-is :
     hats' ≡ set (g .hats) p hats →
     converts ≡ set (g .converts) p conv →
     renamed ≡ set (g .renamed) p false →
-    touched ≡ clearedOf (g .touched) (placesPerPad * w) placesPerPad →
-    moved ≡ clearedOf (g .moved) (placesPerPad * w) placesPerPad →
+    hasbutton ≡ clearedOf (g .hasbutton) (placesPerPad * w) placesPerPad →
+    hasaxis ≡ clearedOf (g .hasaxis) (placesPerPad * w) placesPerPad →
     v ≡ p →
     flags ≡ clearedOf (g .flags) (flagsPerPad * v) flagsPerPad →
     _≡_ {A = Hub}
@@ -78,16 +77,16 @@ pub registered-is :
       hats = hats';
       converts = converts;
       renamed = renamed;
-      rehats = g .rehats;
-      reconverts = g .reconverts;
+      newhats = g .newhats;
+      newconverts = g .newconverts;
       codes = g .codes;
       kinds = g .kinds;
       names = g .names;
       renames = g .renames;
       elements = g .elements;
-      touched = touched;
+      hasbutton = hasbutton;
       buttons = g .buttons;
-      moved = moved;
+      hasaxis = hasaxis;
       axes = g .axes;
       flags = flags;
       queue = g .queue;
@@ -134,11 +133,11 @@ module _ (h : Hub) (s : List ℕ) where
 -- ---- rename
 
 pub renamed-is :
-    (h : Hub) (p : ℕ) (renames : List ℕ) {conv : Bool} {renamed reconverts : List Bool} {rehats : List ℕ} →
+    (h : Hub) (p : ℕ) (renames : List ℕ) {conv : Bool} {renamed newconverts : List Bool} {newhats : List ℕ} →
     conv ≡ convertsOf 0 (h .codes) renames p →
     renamed ≡ set (h .renamed) p true →
-    rehats ≡ set (h .rehats) p 0 →
-    reconverts ≡ set (h .reconverts) p conv →
+    newhats ≡ set (h .newhats) p 0 →
+    newconverts ≡ set (h .newconverts) p conv →
     _≡_ {A = Hub}
     (record {
       pressed = h .pressed;
@@ -153,16 +152,16 @@ pub renamed-is :
       hats = h .hats;
       converts = h .converts;
       renamed = renamed;
-      rehats = rehats;
-      reconverts = reconverts;
+      newhats = newhats;
+      newconverts = newconverts;
       codes = h .codes;
       kinds = h .kinds;
       names = h .names;
       renames = renames;
       elements = h .elements;
-      touched = h .touched;
+      hasbutton = h .hasbutton;
       buttons = h .buttons;
-      moved = h .moved;
+      hasaxis = h .hasaxis;
       axes = h .axes;
       flags = h .flags;
       queue = h .queue;

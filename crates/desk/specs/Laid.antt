@@ -1,4 +1,4 @@
--- The rows of a sheet written into a hub's columns, place by place: one law for each turn of the loop, and what is left at its end. Assumes nothing.
+-- The rows of a sheet written into a hub's columns, place by place: one law for each turn of the loop, and what is left at its end.
 use Prim.Native.Nat.{ℕ, zero, suc, _+_, _-_, _*_, _≤_, _<_}
 use mathlib.Core.Path.{_≡_, refl, ap}
 use mathlib.Core.List.{List, [], _∷_, map}
@@ -29,16 +29,16 @@ laidHub h k rows =
       hats = h .hats;
       converts = h .converts;
       renamed = h .renamed;
-      rehats = h .rehats;
-      reconverts = h .reconverts;
+      newhats = h .newhats;
+      newconverts = h .newconverts;
       codes = laid (h .codes) k (map rowCode rows);
       kinds = laid (h .kinds) k (map rowKind rows);
       names = laid (h .names) k (map rowName rows);
       renames = h .renames;
       elements = laid (h .elements) k (map rowElement rows);
-      touched = h .touched;
+      hasbutton = h .hasbutton;
       buttons = h .buttons;
-      moved = h .moved;
+      hasaxis = h .hasaxis;
       axes = h .axes;
       flags = h .flags;
       queue = h .queue;
@@ -71,16 +71,16 @@ pub lay-one :
       hats = h .hats;
       converts = h .converts;
       renamed = h .renamed;
-      rehats = h .rehats;
-      reconverts = h .reconverts;
+      newhats = h .newhats;
+      newconverts = h .newconverts;
       codes = set (h .codes) place (r .code);
       kinds = set (h .kinds) place (r .kind);
       names = set (h .names) place (r .name);
       renames = h .renames;
       elements = set (h .elements) place (r .element);
-      touched = h .touched;
+      hasbutton = h .hasbutton;
       buttons = h .buttons;
-      moved = h .moved;
+      hasaxis = h .hasaxis;
       axes = h .axes;
       flags = h .flags;
       queue = h .queue;

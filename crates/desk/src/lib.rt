@@ -65,16 +65,16 @@ fn fresh(pressed: f32, released: f32, reversed: bool, filters: bool, updates: bo
         hats: [0u8; 4],
         converts: [false; 4],
         renamed: [false; 4],
-        rehats: [0u8; 4],
-        reconverts: [false; 4],
+        newhats: [0u8; 4],
+        newconverts: [false; 4],
         codes: [0u32; 208],
         kinds: [0u8; 208],
         names: [NO_NAME; 208],
         renames: [NO_NAME; 208],
         elements: [element; 209],
-        touched: [false; 208],
+        hasbutton: [false; 208],
         buttons: [button; 209],
-        moved: [false; 208],
+        hasaxis: [false; 208],
         axes: [axis; 209],
         flags: [false; 24],
         queue: [slot; 64],
@@ -158,8 +158,8 @@ fn registered(h: Hub, p: u8, hats: u8, count: u8, rows: [Row; 52]) -> Hub
     set_pad(&mut g.hats, p, hats);
     pad::mark_pad(&mut g.converts, p, converts);
     pad::mark_pad(&mut g.renamed, p, false);
-    pad::clear(&mut g.touched, start, PLACES_PER_PAD);
-    pad::clear(&mut g.moved, start, PLACES_PER_PAD);
+    pad::clear(&mut g.hasbutton, start, PLACES_PER_PAD);
+    pad::clear(&mut g.hasaxis, start, PLACES_PER_PAD);
     pad::clear_flags(
         &mut g.flags,
         FLAGS_PER_PAD * choices::wide(p),
@@ -215,8 +215,8 @@ fn renamed_as(h: Hub, p: u8, renames: [u8; 208]) -> Hub
     g.renames = renames;
     let converts = pad::converts(0, &g.codes, &g.renames, p);
     pad::mark_pad(&mut g.renamed, p, true);
-    set_pad(&mut g.rehats, p, 0);
-    pad::mark_pad(&mut g.reconverts, p, converts);
+    set_pad(&mut g.newhats, p, 0);
+    pad::mark_pad(&mut g.newconverts, p, converts);
     g
 }
 

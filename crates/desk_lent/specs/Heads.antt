@@ -18,4 +18,4 @@ registeredHead d p hats count converts =
 -- pad p goes by other names, and its hats are 0
 unfoldable pub renamedHead : Head → ℕ → Bool → Head
 renamedHead d p converts =
-    headMarks (headNames d (set (d .rehats) p 0) (set (d .reconverts) p converts)) (d .connected) (set (d .renamed) p true)
+    headMarks (headNames d (set (d .newhats) p 0) (set (d .newconverts) p converts)) (d .connected) (set (d .renamed) p true)

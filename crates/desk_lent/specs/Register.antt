@@ -69,22 +69,22 @@ module _ (h : Hub) (s : List ℕ) where
 -- the hub of a head, of the places' columns and of the lists of records. It stays shut while its parts are rewritten: open, each step would compute the law
 -- book's marks place by place
 unfoldable hubWith : Head → Listed → List Bool → List Bool → List Element → List ButtonData → List AxisData → List Slot → Hub
-hubWith d s touched moved elements buttons axes queue = hubFrom d s touched moved elements buttons axes queue
+hubWith d s hasbutton hasaxis elements buttons axes queue = hubFrom d s hasbutton hasaxis elements buttons axes queue
 
 hub-with :
-    (d : Head) (s : Listed) (touched moved marks : List Bool) (values : List Float) (times queuebytes queuecodes : List ℕ) →
-    hubOf d s (columns touched moved values times marks queuebytes queuecodes)
-    ≡ hubWith d s touched moved (elementsOf values marks) (buttonsOf values times marks) (axesOf values times)
+    (d : Head) (s : Listed) (hasbutton hasaxis marks : List Bool) (values : List Float) (times queuebytes queuecodes : List ℕ) →
+    hubOf d s (columns hasbutton hasaxis values times marks queuebytes queuecodes)
+    ≡ hubWith d s hasbutton hasaxis (elementsOf values marks) (buttonsOf values times marks) (axesOf values times)
     (slotsOf values times queuebytes queuecodes)
 unfolding hubWith
-hub-with d s touched moved marks values times queuebytes queuecodes = refl
+hub-with d s hasbutton hasaxis marks values times queuebytes queuecodes = refl
 
 -- cs, ks, ns are codes, kinds and names of the places, vs and ms values and marks of the records; primes mark what the call leaves
 module _
-    (d : Head) (cs ks ns renames : List ℕ) (touched moved : List Bool) (vs : List Float) (times : List ℕ) (ms : List Bool)
+    (d : Head) (cs ks ns renames : List ℕ) (hasbutton hasaxis : List Bool) (vs : List Float) (times : List ℕ) (ms : List Bool)
     (queuebytes queuecodes : List ℕ) where
   abbrev before : Hub
-  before = hubOf d (listed cs ks ns renames) (columns touched moved vs times ms queuebytes queuecodes)
+  before = hubOf d (listed cs ks ns renames) (columns hasbutton hasaxis vs times ms queuebytes queuecodes)
 
   registered-with :
       (p hats count : ℕ) (rows : List Row) →
@@ -93,7 +93,7 @@ module _
       (convertsOf hats (laid cs (placesPerPad * p) (map rowCode rows)) (laid ns (placesPerPad * p) (map rowName rows)) p))
       (listed (laid cs (placesPerPad * p) (map rowCode rows)) (laid ks (placesPerPad * p) (map rowKind rows))
       (laid ns (placesPerPad * p) (map rowName rows)) renames)
-      (clearedOf touched (placesPerPad * p) placesPerPad) (clearedOf moved (placesPerPad * p) placesPerPad)
+      (clearedOf hasbutton (placesPerPad * p) placesPerPad) (clearedOf hasaxis (placesPerPad * p) placesPerPad)
       (laid (elementsOf vs ms) (placesPerPad * p) (map rowElement rows)) (buttonsOf vs times ms) (axesOf vs times)
       (slotsOf vs times queuebytes queuecodes)
       ≡ registeredAt before p hats count rows
@@ -102,7 +102,7 @@ module _
 
   -- the call where nothing refuses it
   pub register-lent :
-      (s : List ℕ) {number w hats count : ℕ} {cs' ks' ns' : List ℕ} {touched' moved' : List Bool} {vs' : List Float} {ms' : List Bool}
+      (s : List ℕ) {number w hats count : ℕ} {cs' ks' ns' : List ℕ} {hasbutton' hasaxis' : List Bool} {vs' : List Float} {ms' : List Bool}
       {converts : Bool} {d' : Head} →
       d .pads < padLimit →
       number ≡ sheetRefusal s →
@@ -111,12 +111,12 @@ module _
       count ≡ countOf s →
       w ≡ d .pads →
       LaidOut cs ks ns vs ms (placesPerPad * w) (rowsOf s (countOf s)) cs' ks' ns' vs' ms' →
-      touched' ≡ clearedOf touched (placesPerPad * w) placesPerPad →
-      moved' ≡ clearedOf moved (placesPerPad * w) placesPerPad →
+      hasbutton' ≡ clearedOf hasbutton (placesPerPad * w) placesPerPad →
+      hasaxis' ≡ clearedOf hasaxis (placesPerPad * w) placesPerPad →
       converts ≡ convertsOf hats cs' ns' (d .pads) →
       d' ≡ registeredHead d (d .pads) hats count converts →
       registered (record { head = d'; answer = registerAnswer.Pad (d .pads) }) (listed cs' ks' ns' renames)
-      (columns touched' moved' vs' times ms' queuebytes queuecodes)
+      (columns hasbutton' hasaxis' vs' times ms' queuebytes queuecodes)
       ≡ registerOf before s
   register-lent s room e none eh en ew rows et em ec ed =
       register-served before s room e none

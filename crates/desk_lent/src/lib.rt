@@ -49,8 +49,8 @@ fn fresh(pressed: f32, released: f32, reversed: bool, filters: bool, updates: bo
         hats: [0u8; 4],
         converts: [false; 4],
         renamed: [false; 4],
-        rehats: [0u8; 4],
-        reconverts: [false; 4],
+        newhats: [0u8; 4],
+        newconverts: [false; 4],
         flags: [false; 24],
         head: 0,
         waiting: 0,
@@ -68,8 +68,8 @@ pub fn new_hub(
     kinds: &mut [u8; 208],
     names: &mut [u8; 208],
     renames: &mut [u8; 208],
-    touched: &mut [bool; 208],
-    moved: &mut [bool; 208],
+    hasbutton: &mut [bool; 208],
+    hasaxis: &mut [bool; 208],
     values: &mut Values,
     times: &mut Times,
     marks: &mut Marks,
@@ -77,7 +77,7 @@ pub fn new_hub(
     queuecodes: &mut QueueCodes,
 ) -> AnsweredHead
     ensures { λ r. ⌜ answered (r .head) (listed (now (codes .exit)) (now (kinds .exit)) (now (names .exit)) (now (renames .exit)))
-        (columns (now (touched .exit)) (now (moved .exit)) (now (values .exit)) (now (times .exit)) (now (marks .exit))
+        (columns (now (hasbutton .exit)) (now (hasaxis .exit)) (now (values .exit)) (now (times .exit)) (now (marks .exit))
         (now (queuebytes .exit)) (now (queuecodes .exit))) (r .answer)
         ≡ newOf pressed released reversed filters updates ⌝ }
 {
@@ -85,8 +85,8 @@ pub fn new_hub(
     *kinds = [0u8; 208];
     *names = [NO_NAME; 208];
     *renames = [NO_NAME; 208];
-    *touched = [false; 208];
-    *moved = [false; 208];
+    *hasbutton = [false; 208];
+    *hasaxis = [false; 208];
     columns::blank(values, times, marks, queuebytes, queuecodes);
     let number = refusals::thresholds_refusal(pressed, released);
     if 0 < number {
@@ -145,17 +145,17 @@ pub fn register(
     codes: &mut [u32; 208],
     kinds: &mut [u8; 208],
     names: &mut [u8; 208],
-    touched: &mut [bool; 208],
-    moved: &mut [bool; 208],
+    hasbutton: &mut [bool; 208],
+    hasaxis: &mut [bool; 208],
     values: &mut Values,
     marks: &mut Marks,
     sheet: &[u8],
 ) -> RegisteredHead
     ensures { λ r. ⌜ ((renames times queuebytes queuecodes : List ℕ) →
         registered r (listed (now (codes .exit)) (now (kinds .exit)) (now (names .exit)) renames)
-        (columns (now (touched .exit)) (now (moved .exit)) (now (values .exit)) times (now (marks .exit)) queuebytes queuecodes)
+        (columns (now (hasbutton .exit)) (now (hasaxis .exit)) (now (values .exit)) times (now (marks .exit)) queuebytes queuecodes)
         ≡ registerOf (hubOf head (listed (now (codes .entry)) (now (kinds .entry)) (now (names .entry)) renames)
-        (columns (now (touched .entry)) (now (moved .entry)) (now (values .entry)) times (now (marks .entry)) queuebytes queuecodes))
+        (columns (now (hasbutton .entry)) (now (hasaxis .entry)) (now (values .entry)) times (now (marks .entry)) queuebytes queuecodes))
         (now (sheet .entry))) ⌝ }
 {
     let p = head.pads;
@@ -176,8 +176,8 @@ pub fn register(
     let count = sheet[COUNT_AT];
     let start = PLACES_PER_PAD * choices::wide(p);
     layout::lay_in(codes, kinds, names, values, marks, start, sheet);
-    pad::clear(touched, start, PLACES_PER_PAD);
-    pad::clear(moved, start, PLACES_PER_PAD);
+    pad::clear(hasbutton, start, PLACES_PER_PAD);
+    pad::clear(hasaxis, start, PLACES_PER_PAD);
     let converts = pad::converts(hats, codes, names, p);
     RegisteredHead {
         head: with_pad(head, p, hats, count, converts),
@@ -205,8 +205,8 @@ fn with_names(head: Head, p: u8, converts: bool) -> Head
 {
     let mut h = head;
     pad::mark_pad(&mut h.renamed, p, true);
-    set_pad(&mut h.rehats, p, 0);
-    pad::mark_pad(&mut h.reconverts, p, converts);
+    set_pad(&mut h.newhats, p, 0);
+    pad::mark_pad(&mut h.newconverts, p, converts);
     h
 }
 
@@ -219,11 +219,11 @@ pub fn rename<'s>(
     p: u8,
     list: &[u8],
 ) -> AnsweredHead
-    ensures { λ r. ⌜ ((names times queuebytes queuecodes : List ℕ) (touched moved marks : List Bool) (values : List Float) →
+    ensures { λ r. ⌜ ((names times queuebytes queuecodes : List ℕ) (hasbutton hasaxis marks : List Bool) (values : List Float) →
         answered (r .head) (listed (now (codes .entry)) (now (kinds .entry)) names (now (renames .exit)))
-        (columns touched moved values times marks queuebytes queuecodes) (r .answer)
+        (columns hasbutton hasaxis values times marks queuebytes queuecodes) (r .answer)
         ≡ renameOf (hubOf head (listed (now (codes .entry)) (now (kinds .entry)) names (now (renames .entry)))
-        (columns touched moved values times marks queuebytes queuecodes)) p (now (list .entry))) ⌝ }
+        (columns hasbutton hasaxis values times marks queuebytes queuecodes)) p (now (list .entry))) ⌝ }
 {
     let number = rename_refusal(head, p, list);
     if 0 < number {

@@ -1,4 +1,4 @@
--- An event that waits comes back as it was: what a slot keeps of an event is all of it. By the event's cases. Assumes nothing.
+-- An event that waits comes back as it was: what a slot keeps of an event is all of it. By the event's cases.
 use mathlib.Core.Path.{_≡_, refl, ap}
 use Rattle.rules.specs.declared.Event.{Event}
 use Rattle.rules.specs.declared.EventType.{EventType}

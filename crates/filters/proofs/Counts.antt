@@ -1,4 +1,4 @@
--- The filters queue four events at most: dpad three, and the deadzone one more. Assumes nothing.
+-- The filters queue four events at most: dpad three, and the deadzone one more.
 use mathlib.Core.Path.{_≡_}
 use mathlib.Core.Bool.{Bool, true, false}
 use Prim.Native.Nat.{_≤_}

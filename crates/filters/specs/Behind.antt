@@ -1,5 +1,5 @@
 -- What the filters send and what waits behind it, told one by one. The laws: it is what the law book's answer holds, its event, flags, count, and each
--- event of its queue up to the count. Assumes nothing.
+-- event of its queue up to the count.
 use Prim.Native.Nat.{ℕ, zero, suc, _+_, _-_, _≤_, _<_}
 use mathlib.Core.Path.{_≡_, refl, sym, _∙_, ap}
 use mathlib.Core.Bool.{Bool, true, false, cond}

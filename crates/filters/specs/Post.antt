@@ -1,4 +1,4 @@
--- What the filters promise: the answer of the law book, and how many events it queues. Assumes nothing.
+-- What the filters promise: the answer of the law book, and how many events it queues.
 use mathlib.Core.Path.{_≡_}
 use mathlib.Core.Bool.{Bool}
 use Prim.Native.Nat.{ℕ, _≤_}

@@ -1,5 +1,5 @@
 -- The theorem: for two values of binary32 in -1..1 and a threshold of 0 or above (-0.0 and an infinity included; from 1 on nothing lies outside), both of the
--- deadzone's answers lie in -1..1, so neither is a NaN or an infinity. Assumes nothing.
+-- deadzone's answers lie in -1..1, so neither is a NaN or an infinity.
 -- The idea: inside, both are 0. Outside, 0 ≤ t < m ≤ 1, and the factor is at most 2 however small m is (`Factor`), so a size of at most a half stays within 1. A size
 -- above a half is at most m (`Larger`), and m times the factor is at most 1 + 2 ^ -24, which rounds to 1. Rounding keeps the order and the values (`Rounding`).
 use mathlib.Core.Path.{_≡_, refl, sym, subst}

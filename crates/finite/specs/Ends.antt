@@ -1,5 +1,5 @@
 -- Between comparisons of binary32 and units of 2 ^ -149: what -1..1 says of a value's size, what "outside the deadzone" says of magnitude and threshold,
--- and what holding to 0..1 makes of a size. Assumes nothing.
+-- and what holding to 0..1 makes of a size.
 use mathlib.Core.Path.{_≡_, refl, sym, ap, _∙_}
 use mathlib.Core.Logic.{_⊎_, inl, inr}
 use mathlib.Core.Bool.{Bool, true, false, _&&_, _||_, cond, or-true, true≢false, false≢true}

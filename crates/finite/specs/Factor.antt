@@ -1,6 +1,6 @@
 -- The factor ((m - t) / (1 - t)) / m of the deadzone in units, each operation rounded, for 0 ≤ t < m ≤ 1: it is at most 2. And above a half, where it is at most
 -- 1 / m rounded, m times the factor is at most 1 + 2 ^ -24. The ideas: m - t ≤ 1 - t, so the first quotient is at most 1; and where m is at most a half, 1 - t is
--- at least a half, so the first quotient is at most 2 m, which is a value. Nothing is asked of how small m is. Assumes nothing.
+-- at least a half, so the first quotient is at most 2 m, which is a value. Nothing is asked of how small m is.
 use mathlib.Core.Path.{sym, _∙_}
 use mathlib.Core.Bool.{Bool, true, false, not}
 use Prim.Native.Nat.{ℕ, _+_, _-_, _*_, _^_, _≤_, _<_}

@@ -1,5 +1,5 @@
 -- The thresholds that registration keeps are such as the theorem asks for: for a min below a max inside 01's limits, and any deadzone, `thresholdOf` is a value of
--- binary32 that is 0 or above. (It may well be above 1.) The idea: nothing with the sign goes in, and no operation gives one. Assumes nothing.
+-- binary32 that is 0 or above. (It may well be above 1.) The idea: nothing with the sign goes in, and no operation gives one.
 use mathlib.Core.Path.{_≡_, refl, sym, _∙_, subst}
 use mathlib.Core.Bool.{Bool, true, false, not, cond, false≢true}
 use Prim.Native.Nat.{ℕ, zero, suc, _+_, _-_, _*_, _≤_, _^_}

@@ -1,5 +1,5 @@
 -- The magnitude of a stick is at least each of its two sizes, where that is above a half: a square rounded loses at most half a place, which is too little
--- to bring its root below the next value. (Far below a half the square underflows, and this is false.) Assumes nothing.
+-- to bring its root below the next value. (Far below a half the square underflows, and this is false.)
 use mathlib.Core.Path.{_≡_, sym, ap, _∙_, subst}
 use mathlib.Core.Logic.{_⊎_, inl, inr}
 use mathlib.Core.Bool.{false}

@@ -1,4 +1,4 @@
--- The magnitude of a stick whose two values lie in -1..1, in units of 2 ^ -149: it is a value in 0..1, and at least each size above a half. Assumes nothing.
+-- The magnitude of a stick whose two values lie in -1..1, in units of 2 ^ -149: it is a value in 0..1, and at least each size above a half.
 use mathlib.Core.Path.{_≡_, refl, sym, ap, _∙_, subst}
 use mathlib.Core.Logic.{_⊎_, inl, inr}
 use mathlib.Core.Bool.{Bool, true, false}

@@ -1,4 +1,4 @@
--- The operations of binary32 on values that are given in units of 2 ^ -149: each is `round` of the fraction of the units, however the values are written. Assumes nothing.
+-- The operations of binary32 on values that are given in units of 2 ^ -149: each is `round` of the fraction of the units, however the values are written.
 use mathlib.Core.Path.{_≡_, refl, sym, ap, _∙_, subst}
 use mathlib.Core.Bool.{Bool, true, false, not}
 use Prim.Native.Nat.{ℕ, _+_, _-_, _*_, _≤_, _<_}

@@ -1,5 +1,5 @@
 -- `round` in units of 2 ^ -149: it keeps the order and changes no value of the format, so what lies at or below a value still does when it is rounded; and the
--- result lies within half a place of the fraction. Assumes nothing.
+-- result lies within half a place of the fraction.
 use mathlib.Core.Path.{_≡_, sym, ap, _∙_, subst}
 use mathlib.Core.Bool.{Bool, true, false, not, _&&_, _||_, cond, true≢false}
 use Prim.Native.Nat.{ℕ, suc, _+_, _*_, _/_, _%_, _^_, _≤_, _<_, compare, Ordering, Ordering·lt, Ordering·eq, Ordering·gt}

@@ -1,4 +1,4 @@
--- Sizes in units of binary32's smallest value, 2 ^ -149: the names of those that the theorem needs, and that powers of two and the double of a value are values. Assumes nothing.
+-- Sizes in units of binary32's smallest value, 2 ^ -149: the names of those that the theorem needs, and that powers of two and the double of a value are values.
 use mathlib.Core.Path.{sym, ap, _∙_}
 use Prim.Native.Nat.{ℕ, suc, _*_, _^_, _≤_, _<_}
 use native.Mathlib.Nat.{lt-of-le-of-lt, one-mul, mul-pos, mul-left-comm, pow-succ'}

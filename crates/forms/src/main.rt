@@ -101,7 +101,7 @@ fn pads_of(case: &[u8]) -> Met {
 // ---- what they meet: 8, 6, 9, 10, 11, 12, 13 where they apply
 
 fn record_refusal(m: Met, record: &[u8]) -> u8 {
-    let looked = wire::look(record, 0, 0);
+    let looked = wire::next_record(record, 0, 0);
     let raw = looked.raw;
     let place = pad::place_of(&m.codes, raw.pad, raw.code);
     refusals::record_refusal(looked, m.pads, pad::kind_at(&m.kinds, place))

@@ -8,7 +8,7 @@ ghost use Rattle.rules.specs.Places.{presentNames, namedOf};
 ghost use Rattle.rules.specs.Hub.{flagPlace};
 ghost use Rattle.pad.specs.Found.{Placed};
 ghost use Rattle.rules.specs.Hub.{hatPlaceOf, partnerPlaceOf, convertsIn};
-ghost use Rattle.gather.specs.Sight.{FoundIs, SightIs, PlaceIs, cellOf, viewBy};
+ghost use Rattle.gather.specs.EventPlaces.{FoundIs, EventPlacesAre, PlaceIs, placeMarksOf, viewBy};
 use rules::AxisData;
 use rules::ButtonData;
 use rules::ELEMENT_AXIS;
@@ -29,7 +29,7 @@ pub struct Found {
     pub place: usize,
     pub kind: u8,
     pub name: u8,
-    pub touched: bool,
+    pub hasbutton: bool,
 }
 
 // The present name of a place: a rename's until the next Connected.
@@ -55,37 +55,41 @@ pub fn find<'a>(
     names: &'a [u8; 208],
     renames: &'a [u8; 208],
     renamed: &'a [bool; 4],
-    touched: &'a [bool; 208],
+    hasbutton: &'a [bool; 208],
     p: u8,
     code: u32,
 ) -> Found
-    ensures { λ r. ⌜ FoundIs (now (codes .entry)) (now (kinds .entry)) (now (names .entry)) (now (renames .entry)) (now (renamed .entry)) (now (touched .entry)) p code r ⌝ }
+    ensures { λ r. ⌜ FoundIs (now (codes .entry)) (now (kinds .entry)) (now (names .entry)) (now (renames .entry)) (now (renamed .entry)) (now (hasbutton .entry)) p code r ⌝ }
 {
     let place = pad::place_of(codes, p, code);
     Found {
         place: place,
         kind: pad::kind_at(kinds, place),
         name: present_name(names, renames, renamed, p, place),
-        touched: pad::bool_at(touched, place),
+        hasbutton: pad::bool_at(hasbutton, place),
     }
 }
 
 // ---- an event's places
 
 // A place, and which records it has.
-pub struct Cell {
+pub struct PlaceMarks {
     pub place: usize,
-    pub touched: bool,
-    pub moved: bool,
+    pub hasbutton: bool,
+    pub hasaxis: bool,
 }
 
-pub fn cell_at<'a>(touched: &'a [bool; 208], moved: &'a [bool; 208], place: usize) -> Cell
-    ensures { λ r. ⌜ r ≡ cellOf (now (touched .entry)) (now (moved .entry)) place ⌝ }
+pub fn place_marks<'a>(
+    hasbutton: &'a [bool; 208],
+    hasaxis: &'a [bool; 208],
+    place: usize,
+) -> PlaceMarks
+    ensures { λ r. ⌜ r ≡ placeMarksOf (now (hasbutton .entry)) (now (hasaxis .entry)) place ⌝ }
 {
-    Cell {
+    PlaceMarks {
         place: place,
-        touched: pad::bool_at(touched, place),
-        moved: pad::bool_at(moved, place),
+        hasbutton: pad::bool_at(hasbutton, place),
+        hasaxis: pad::bool_at(hasaxis, place),
     }
 }
 
@@ -154,13 +158,13 @@ pub fn flag_place(p: u8, name: u8) -> usize
 pub fn converts_now<'a>(
     renamed: &'a [bool; 4],
     converts: &'a [bool; 4],
-    reconverts: &'a [bool; 4],
+    newconverts: &'a [bool; 4],
     p: u8,
 ) -> bool
-    ensures { λ r. ⌜ r ≡ convertsIn (now (renamed .entry)) (now (converts .entry)) (now (reconverts .entry)) p ⌝ }
+    ensures { λ r. ⌜ r ≡ convertsIn (now (renamed .entry)) (now (converts .entry)) (now (newconverts .entry)) p ⌝ }
 {
     if pad::pad_bool(renamed, p) {
-        pad::pad_bool(reconverts, p)
+        pad::pad_bool(newconverts, p)
     } else {
         pad::pad_bool(converts, p)
     }
@@ -190,11 +194,11 @@ fn place_again(
 // ---- what the filters see
 
 // The places that the filters look at for an event: its own, the two directions of a hat's axis, the partner; and where the two flags stand.
-pub struct Sight {
-    pub own: Cell,
-    pub positive: Cell,
-    pub negative: Cell,
-    pub partner: Cell,
+pub struct EventPlaces {
+    pub own: PlaceMarks,
+    pub positive: PlaceMarks,
+    pub negative: PlaceMarks,
+    pub partner: PlaceMarks,
     pub code: u32,
     pub converts: bool,
     pub dead: bool,
@@ -204,16 +208,16 @@ pub struct Sight {
 }
 
 // What a step sees for an event, where a place was looked up before, for the event's code or another.
-pub fn sighted_again<'a>(
+pub fn event_places<'a>(
     codes: &'a [u32; 208],
     kinds: &'a [u8; 208],
     names: &'a [u8; 208],
     renames: &'a [u8; 208],
     renamed: &'a [bool; 4],
     converts: &'a [bool; 4],
-    reconverts: &'a [bool; 4],
-    touched: &'a [bool; 208],
-    moved: &'a [bool; 208],
+    newconverts: &'a [bool; 4],
+    hasbutton: &'a [bool; 208],
+    hasaxis: &'a [bool; 208],
     flags: &'a [bool; 24],
     p: u8,
     name: u8,
@@ -221,9 +225,9 @@ pub fn sighted_again<'a>(
     lastpad: u8,
     lastcode: u32,
     last: usize,
-) -> Sight
+) -> EventPlaces
     requires { ⌜ Placed (now codes) lastpad lastcode last ⌝ }
-    ensures { λ r. ⌜ SightIs (now (codes .entry)) (now (kinds .entry)) (now (names .entry)) (now (renames .entry)) (now (renamed .entry)) (now (converts .entry)) (now (reconverts .entry)) (now (touched .entry)) (now (moved .entry)) (now (flags .entry)) p name code r ⌝ }
+    ensures { λ r. ⌜ EventPlacesAre (now (codes .entry)) (now (kinds .entry)) (now (names .entry)) (now (renames .entry)) (now (renamed .entry)) (now (converts .entry)) (now (newconverts .entry)) (now (hasbutton .entry)) (now (hasaxis .entry)) (now (flags .entry)) p name code r ⌝ }
 {
     let own = place_again(codes, p, code, lastpad, lastcode, last);
     let positive = hat_place(codes, p, name, names::positive_code(name));
@@ -231,13 +235,13 @@ pub fn sighted_again<'a>(
     let partner = partner_place(names, renames, renamed, p, name);
     let flag = flag_place(p, name);
     let other = flag_place(p, names::partner_of(name));
-    Sight {
-        own: cell_at(touched, moved, own),
-        positive: cell_at(touched, moved, positive),
-        negative: cell_at(touched, moved, negative),
-        partner: cell_at(touched, moved, partner),
+    EventPlaces {
+        own: place_marks(hasbutton, hasaxis, own),
+        positive: place_marks(hasbutton, hasaxis, positive),
+        negative: place_marks(hasbutton, hasaxis, negative),
+        partner: place_marks(hasbutton, hasaxis, partner),
         code: pad::code_at(codes, partner),
-        converts: converts_now(renamed, converts, reconverts, p),
+        converts: converts_now(renamed, converts, newconverts, p),
         dead: pad::kind_at(kinds, own) == ELEMENT_AXIS,
         flag: flag,
         other: other,
@@ -250,7 +254,7 @@ pub fn sighted_again<'a>(
 
 // The view, with what stands at the places: the own element and records, the two directions' button records, the partner's records.
 pub fn view_of(
-    s: Sight,
+    s: EventPlaces,
     element: Element,
     b: ButtonData,
     a: AxisData,
@@ -268,17 +272,22 @@ pub fn view_of(
     let flags = s.flags;
     View {
         converts: s.converts,
-        positive: state::read_pressed(positive.touched, plus),
-        negative: state::read_pressed(negative.touched, minus),
-        stored: own.moved,
+        positive: state::read_pressed(positive.hasbutton, plus),
+        negative: state::read_pressed(negative.hasbutton, minus),
+        stored: own.hasaxis,
         stick: a.value,
         dead: s.dead,
         threshold: element.threshold,
-        own: state::read_value(own.moved, a, own.touched, b),
+        own: state::read_value(own.hasaxis, a, own.hasbutton, b),
         partner: Partner {
             stands: partner.place < NOWHERE,
             code: s.code,
-            value: state::read_value(partner.moved, partneraxis, partner.touched, partnerbutton),
+            value: state::read_value(
+                partner.hasaxis,
+                partneraxis,
+                partner.hasbutton,
+                partnerbutton,
+            ),
         },
         flags: flags,
     }

@@ -1,5 +1,5 @@
 -- What a hat's axis gives, by where it stands. The two ways to press a direction are one: toward the positive end, and toward the negative end
--- with the directions exchanged. Assumes nothing.
+-- with the directions exchanged.
 use mathlib.Core.Path.{_≡_, refl}
 use mathlib.Core.Bool.{Bool, true, false}
 use Prim.Native.Nat.{ℕ}

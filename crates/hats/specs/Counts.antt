@@ -1,4 +1,4 @@
--- dpad queues three events at most, in a queue of four: laws of the definition, so that what a function is gives how many it queues. Assumes nothing.
+-- dpad queues three events at most, in a queue of four: laws of the definition, so that what a function is gives how many it queues.
 use mathlib.Core.Path.{_≡_, refl}
 use mathlib.Core.Bool.{Bool, true, false, cond, _&&_}
 use Prim.Native.Nat.{ℕ, _≤_}

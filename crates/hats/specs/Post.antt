@@ -1,4 +1,4 @@
--- What the dpad filter promises: the answer of the law book, and how many events it queues. Assumes nothing.
+-- What the dpad filter promises: the answer of the law book, and how many events it queues.
 use mathlib.Core.Path.{_≡_}
 use Prim.Native.Nat.{ℕ, _≤_}
 use Rattle.rules.specs.declared.Event.{Event}

@@ -1,5 +1,5 @@
 -- The events that dpad queues, one by one: what a place of its queue holds, without the queue. The law `queued-is`: up to the count it is what the law book's
--- queue has there. Assumes nothing.
+-- queue has there.
 use Prim.Native.Nat.{ℕ, zero, suc, _≤_, _<_}
 use mathlib.Core.Path.{_≡_, refl}
 use mathlib.Core.Bool.{Bool, true, false, cond, _&&_}

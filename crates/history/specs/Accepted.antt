@@ -1,5 +1,5 @@
 -- What a record that is not refused tells: its pad is registered, a press or a release is of a button element and a value of an axis, and the value is
--- inside the limits. Assumes nothing.
+-- inside the limits.
 use Prim.Native.Nat.{ℕ, _<_, _≤_}
 use mathlib.Core.Bool.{Bool, true, false, cond, _&&_}
 use mathlib.Core.Path.{_≡_, refl}

@@ -1,4 +1,4 @@
--- A record's step leaves at most three events to be handed out behind the one that goes out. By the cases of dispatch and of the conversion. Assumes nothing.
+-- A record's step leaves at most three events to be handed out behind the one that goes out. By the cases of dispatch and of the conversion.
 use Prim.Native.Nat.{ℕ, _≤_}
 use mathlib.Core.Bool.{Bool, true, false, not, _&&_}
 use mathlib.Core.List.{List, []}

@@ -1,4 +1,4 @@
--- What a place of the hub holds of its button record, and what one event makes of it: an event writes the place of its code and no other. Assumes nothing.
+-- What a place of the hub holds of its button record, and what one event makes of it: an event writes the place of its code and no other.
 use Prim.Native.Nat.{ℕ, _+_, _<_}
 use mathlib.Core.Bool.{Bool, true, false, cond, _&&_, _||_}
 use mathlib.Core.List.{List}
@@ -19,7 +19,7 @@ use Rattle.rules.specs.Names.{nowhere}
 use Rattle.rules.specs.Places.{placeOf}
 use Rattle.rules.specs.Events.{codeOf}
 use Rattle.rules.specs.State.{buttonType, writesButtonType, writesAxisType, buttonAfter, writesButton, writesAxis}
-use Rattle.rules.specs.Hub.{placeIn, touchedAt, movedAt, buttonAt, pastButton}
+use Rattle.rules.specs.Hub.{placeIn, hasButtonAt, hasAxisAt, buttonAt, pastButton}
 use Rattle.rules.specs.Step.{updatedAt, updatedOf}
 
 -- a button record without its stamp, counter and repeating mark, and whether it is there
@@ -29,7 +29,7 @@ pub record Cell : Type 0 where
   pub value : Float
 
 unfoldable pub cellAt : Hub → ℕ → Cell
-cellAt h k = record { known = touchedAt h k; pressed = buttonAt h k .pressed; value = buttonAt h k .value }
+cellAt h k = record { known = hasButtonAt h k; pressed = buttonAt h k .pressed; value = buttonAt h k .value }
 
 -- what is read of it
 abbrev pub cellPressed : Cell → Bool
@@ -50,9 +50,9 @@ cellType Dropped x = x
 
 -- the lengths of the state's columns
 pub record Long (h : Hub) : Type 0 where
-  pub touched : length (h .touched) ≡ nowhere
+  pub hasbutton : length (h .hasbutton) ≡ nowhere
   pub buttons : length (h .buttons) ≡ nowhere + 1
-  pub moved : length (h .moved) ≡ nowhere
+  pub hasaxis : length (h .hasaxis) ≡ nowhere
 
 -- whether an event is of a place's code
 unfoldable pub hits : List ℕ → ℕ → Event → Bool
@@ -88,29 +88,29 @@ module _ (h : Hub) (e : Event) (k : ℕ) (long : Long h) (inside : k < nowhere) 
   unfolding cellAt updatedOf updatedAt buttonAfter writesButton
   written true is =
       let same = eqb-true at k is in
-      let t : k < length (h .touched) = omega (arith, long .touched) in
+      let t : k < length (h .hasbutton) = omega (arith, long .hasbutton) in
       let b : k < length (h .buttons) = omega (arith, long .buttons) in
-      rw (same, getD-set-same (h .touched) k (touchedAt h k || writesButtonType (e .event)) false t, getD-set-same (h .buttons) k (buttonType (e .event) (touchedAt h k) (buttonAt h k) (e .time) (h .counter)) pastButton b)
-      (here (e .event) (touchedAt h k) (buttonAt h k) (e .time) (h .counter))
+      rw (same, getD-set-same (h .hasbutton) k (hasButtonAt h k || writesButtonType (e .event)) false t, getD-set-same (h .buttons) k (buttonType (e .event) (hasButtonAt h k) (buttonAt h k) (e .time) (h .counter)) pastButton b)
+      (here (e .event) (hasButtonAt h k) (buttonAt h k) (e .time) (h .counter))
   written false is =
       let other : k ≡ at → ⊥ = λ x. eqb-false at k is (sym x) in
-      rw (getD-set-other (h .touched) at k _ false other, getD-set-other (h .buttons) at k _ pastButton other)
+      rw (getD-set-other (h .hasbutton) at k _ false other, getD-set-other (h .buttons) at k _ pastButton other)
 
   pub cell-after : cellAt (updatedOf true h e) k ≡ cond (hits (h .codes) k e) (cellType (e .event) (cellAt h k)) (cellAt h k)
   unfolding hits
   cell-after = written (eqb at k) refl
 
   -- an axis record comes to the place of an axis event's code alone
-  moved-by : (hit : Bool) → eqb at k ≡ hit → movedAt (updatedOf true h e) k ≡ cond hit (movedAt h k || writesAxisType (e .event)) (movedAt h k)
+  hasaxis-by : (hit : Bool) → eqb at k ≡ hit → hasAxisAt (updatedOf true h e) k ≡ cond hit (hasAxisAt h k || writesAxisType (e .event)) (hasAxisAt h k)
   unfolding updatedOf updatedAt writesAxis
-  moved-by true is =
+  hasaxis-by true is =
       let same = eqb-true at k is in
-      let t : k < length (h .moved) = omega (arith, long .moved) in
-      rw (same, getD-set-same (h .moved) k (movedAt h k || writesAxisType (e .event)) false t)
-  moved-by false is =
+      let t : k < length (h .hasaxis) = omega (arith, long .hasaxis) in
+      rw (same, getD-set-same (h .hasaxis) k (hasAxisAt h k || writesAxisType (e .event)) false t)
+  hasaxis-by false is =
       let other : k ≡ at → ⊥ = λ x. eqb-false at k is (sym x) in
-      rw (getD-set-other (h .moved) at k _ false other)
+      rw (getD-set-other (h .hasaxis) at k _ false other)
 
-  pub moved-after : movedAt (updatedOf true h e) k ≡ cond (hits (h .codes) k e) (movedAt h k || writesAxisType (e .event)) (movedAt h k)
+  pub hasaxis-after : hasAxisAt (updatedOf true h e) k ≡ cond (hits (h .codes) k e) (hasAxisAt h k || writesAxisType (e .event)) (hasAxisAt h k)
   unfolding hits
-  moved-after = moved-by (eqb at k) refl
+  hasaxis-after = hasaxis-by (eqb at k) refl

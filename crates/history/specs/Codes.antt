@@ -1,5 +1,4 @@
 -- Buttons and triggers, whatever is played: what a code's place tells is what the rule says of the records that were taken. By induction on the calls.
--- Assumes nothing.
 use Prim.Native.Nat.{ℕ, _<_}
 use mathlib.Core.Bool.{Bool, true, false}
 use mathlib.Core.List.{List, [], _∷_}

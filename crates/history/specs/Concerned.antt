@@ -1,5 +1,4 @@
 -- A record of a place's own code, taken: a button tells the press or the release, a trigger the fold of its thresholds and its value, cut by its deadzone.
--- Assumes nothing.
 use Prim.Native.Nat.{ℕ, _≤_}
 use mathlib.Core.Bool.{Bool, true, false, cond, _&&_, _||_}
 use mathlib.Core.Path.{_≡_, refl, sym, _∙_, ap, subst}

@@ -1,5 +1,5 @@
 -- Demand 3 for buttons and triggers: "when none wait, every button, trigger .. reads as 01's history rule says, which knows no queue". Whatever was played, by
--- the queries that an overlay calls. Assumes nothing.
+-- the queries that an overlay calls.
 use Prim.Native.Nat.{ℕ, _<_}
 use mathlib.Core.Bool.{Bool, true, false, not, _&&_, _||_}
 use mathlib.Core.List.{List, []}
@@ -18,7 +18,7 @@ use Rattle.rules.specs.Names.{padLimit, nowhere, noName, isAxis, isButton, isHa
 use Rattle.rules.specs.Sheets.{elementButton, elementAxis}
 use Rattle.rules.specs.Refusals.{standsOf, unlessFits}
 use Rattle.rules.specs.State.{readPressed, readValue}
-use Rattle.rules.specs.Hub.{placeIn, kindAt, elementAt, pressedAt, movedAt, valueAt}
+use Rattle.rules.specs.Hub.{placeIn, kindAt, elementAt, pressedAt, hasAxisAt, valueAt}
 use Rattle.rules.specs.Queries.{padRefusal, truthBy, valueBy, pressedByCode, valueByCode}
 use Rattle.promises.specs.Waiting.{waitingList}
 use Rattle.registered.specs.Pads.{Desk, reached-desk, direction-kept}
@@ -94,7 +94,7 @@ pub cell-pressed : (h : Hub) (k : ℕ) → pressedAt h k ≡ cellPressed (cellAt
 unfolding pressedAt readPressed cellAt
 cell-pressed h k = refl
 
-pub cell-value : (h : Hub) (k : ℕ) → movedAt h k ≡ false → valueAt h k ≡ cellValue (cellAt h k)
+pub cell-value : (h : Hub) (k : ℕ) → hasAxisAt h k ≡ false → valueAt h k ≡ cellValue (cellAt h k)
 unfolding valueAt readValue cellAt
 cell-value h k still = rw still
 

@@ -34,7 +34,7 @@ use Rattle.history.specs.Played.{Played, reached, ready}
 use Rattle.history.specs.Register.{listed-found}
 use Rattle.history.specs.Sorts.{Same, same-sheets, same-place, step-same, update-same}
 use Rattle.history.specs.Tidy.{tidy}
-use Rattle.history.specs.Fed.{repeat-cell, repeat-moved, update-sheet, update-queue}
+use Rattle.history.specs.Fed.{repeat-cell, repeat-hasaxis, update-sheet, update-queue}
 use Rattle.history.specs.Kept.{grown, Keeps, kept, unseen}
 use Rattle.history.specs.Sides.{Side, side-by, served-side}
 use Rattle.history.specs.Hats.{Unlisted, Sheeted, nameBy, turns, moves, joined-side, other-side, turned-side}
@@ -111,8 +111,8 @@ module _ (p n : ℕ) (positive reversed : Bool) (nameOf : ℕ → ℕ) (elementO
     takes : Holds h rs → Holds (stepHub h (lookAt r)) (r ∷ rs)
     takes t = over h (stepHub h (lookAt r)) (step-same h (lookAt r)) (shown (r ∷ rs)) (by (rejoins p r) (turns h p n r) refl refl)
       where
-        by : (joins moved : Bool) → rejoins p r ≡ joins → turns h p n r ≡ moved → After (value (r ∷ rs))
-        by true moved j m =
+        by : (joins hasaxis : Bool) → rejoins p r ≡ joins → turns h p n r ≡ hasaxis → After (value (r ∷ rs))
+        by true hasaxis j m =
             subst After (sym (joined-value j))
             (subst (Side (stepHub h (lookAt r)) (place h)) (sym (zero-presses positive))
             (joined-side h (ready w) desk (reached-sound (reached w)) p n r ok none positive (on .unlisted) j))
@@ -172,7 +172,7 @@ module _ (p n : ℕ) (positive reversed : Bool) (nameOf : ℕ → ℕ) (elementO
             let found = on .unlisted .plain .inside in
             over h (updatedOf true h e) (update-same h e) (shown rs)
             (side-by (updatedOf true h e) (sym (update-sheet h e)) (sym (update-queue h e)) (place h)
-            (repeat-cell h (ready w) pad time m c down (place h) found) (t .shows) (repeat-moved h (ready w) pad time m c down (place h) found (t .still)));
+            (repeat-cell h (ready w) pad time m c down (place h) found) (t .shows) (repeat-hasaxis h (ready w) pad time m c down (place h) found (t .still)));
       }
 
   pub sides : {h : Hub} {rs : List RawRecord} → Played h rs → Unlisted (sheetOf h) p n positive → Sheeted (sheetOf h) p nameOf elementOf

@@ -1,5 +1,5 @@
 -- What an event that may wait does to a place, exactly: one of another code leaves it alone, and what the filters queue behind it is of another place too;
--- one of a place that has no deadzone is written as it is. Assumes nothing.
+-- one of a place that has no deadzone is written as it is.
 use Prim.Native.Nat.{ℕ, _<_}
 use mathlib.Core.Bool.{Bool, true, false, cond, _&&_, _||_}
 use mathlib.Core.List.{List}

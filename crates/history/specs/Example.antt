@@ -1,4 +1,4 @@
--- Closed examples of the history rule, computed by the checker. Assumes nothing.
+-- Closed examples of the history rule, computed by the checker.
 use Prim.Native.Nat.{ℕ}
 use mathlib.Core.Bool.{true, false, cond}
 use mathlib.Core.List.{[], _∷_}

@@ -1,4 +1,4 @@
--- A repeat that is fed back while its button is held changes no reading. Assumes nothing.
+-- A repeat that is fed back while its button is held changes no reading.
 use Prim.Native.Nat.{ℕ, _<_}
 use mathlib.Core.Bool.{Bool, true, false, cond, _&&_, _||_}
 use mathlib.Core.List.{List}
@@ -13,10 +13,10 @@ use Rattle.rules.specs.Names.{nowhere}
 use Rattle.rules.specs.Places.{placeOf}
 use Rattle.rules.specs.Events.{codeOf}
 use Rattle.rules.specs.State.{readPressed}
-use Rattle.rules.specs.Hub.{pressedAt, movedAt}
+use Rattle.rules.specs.Hub.{pressedAt, hasAxisAt}
 use Rattle.rules.specs.Step.{updatedOf, updatedAt}
 use Rattle.promises.specs.Waiting.{waitingList}
-use Rattle.history.specs.Cells.{Cell, cellAt, cellPressed, cellValue, cellType, hits, cell-after, moved-after}
+use Rattle.history.specs.Cells.{Cell, cellAt, cellPressed, cellValue, cellType, hits, cell-after, hasaxis-after}
 use Rattle.history.specs.Turns.{ev}
 use Rattle.history.specs.Steps.{Ready}
 use Rattle.history.specs.Waits.{Sheet, sheetOf}
@@ -46,13 +46,13 @@ module _ (h : Hub) (w : Ready h) (pad time n c : ℕ) (held : pressedAt h (place
   unfolding hits codeOf
   repeat-cell = cell-after h e k (w .long) inside ∙ same-by (eqb (placeOf (h .codes) pad c) k) refl
 
-  pub repeat-moved : movedAt h k ≡ false → movedAt (updatedOf true h e) k ≡ false
-  repeat-moved still = moved-after h e k (w .long) inside ∙ by (hits (h .codes) k e) (movedAt h k) still
+  pub repeat-hasaxis : hasAxisAt h k ≡ false → hasAxisAt (updatedOf true h e) k ≡ false
+  repeat-hasaxis still = hasaxis-after h e k (w .long) inside ∙ by (hits (h .codes) k e) (hasAxisAt h k) still
     where
-      by : (hit moved : Bool) → moved ≡ false → cond hit (moved || false) moved ≡ false
+      by : (hit hasaxis : Bool) → hasaxis ≡ false → cond hit (hasaxis || false) hasaxis ≡ false
       by true true s = s
       by true false s = refl
-      by false moved s = s
+      by false hasaxis s = s
 
 pub update-sheet : (h : Hub) (e : Event) → sheetOf h ≡ sheetOf (updatedOf true h e)
 unfolding updatedOf updatedAt
@@ -70,7 +70,7 @@ module _ (P : Float → Type 0) (alike : (a b : Float) → P a → P b → eq a 
   pub repeat-told : (pad time n c : ℕ) → pressedAt h (placeOf (h .codes) pad c) ≡ true → Told h → Told (updatedOf true h (ev pad time (Repeated n c)))
   repeat-told pad time n c held t =
       let cell = repeat-cell h w pad time n c held k inside in
-      let moved = repeat-moved h w pad time n c held k inside (t .still) in
+      let hasaxis = repeat-hasaxis h w pad time n c held k inside (t .still) in
       subst (λ (s : Sheet). Tells P alike s (updatedOf true h (ev pad time (Repeated n c))) k (waitingList (updatedOf true h (ev pad time (Repeated n c)))) b v)
       (update-sheet h (ev pad time (Repeated n c)))
       (subst (λ (q : List Event). Tells P alike (sheetOf h) (updatedOf true h (ev pad time (Repeated n c))) k q b v) (update-queue h (ev pad time (Repeated n c)))
@@ -78,6 +78,6 @@ module _ (P : Float → Type 0) (alike : (a b : Float) → P a → P b → eq a 
         pressed = ap cellPressed cell ∙ t .pressed;
         value = ap (λ (x : Cell). due (sheetOf h) k (waitingList h) (cellValue x)) cell ∙ t .value;
         proper = subst P (sym (ap cellValue cell)) (t .proper);
-        still = moved;
+        still = hasaxis;
         waits = t .waits;
       }))

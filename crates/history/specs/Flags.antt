@@ -1,5 +1,5 @@
 -- A clearing event costs a flag: where an axis event queues one for its partner, the partner's deadzone flag was up and comes down, and its own does not go up.
--- So one clearing event calls forth at most one other. Assumes nothing.
+-- So one clearing event calls forth at most one other.
 use Prim.Native.Nat.{ℕ, _+_, _≤_}
 use mathlib.Core.Bool.{Bool, true, false, cond, not, _&&_}
 use mathlib.Core.List.{List, [], _∷_}
@@ -66,8 +66,8 @@ pair-stands v pair clears = and-parts (v .partner .stands) _ clears .0
 -- ---- the filters on an axis event that no conversion takes
 
 module _ (v : View) (pad time n c : ℕ) (x : Float) where
-  abbrev moved : Event
-  moved = ev pad time (Axis n c x)
+  abbrev hasaxis : Event
+  hasaxis = ev pad time (Axis n c x)
 
   -- nothing is queued, or a clearing event that costs a flag
   pub data Sweeps : List Event → Flags → Type 0 where
@@ -75,26 +75,26 @@ module _ (v : View) (pad time n c : ℕ) (x : Float) where
     clears : {f : Flags} → v .partner .stands ≡ true → Costs (v .flags) f → Sweeps (ev pad time (Axis (partnerOf n) (v .partner .code) zero32) ∷ []) f
 
   abbrev zone : Bool → Zoned
-  zone dead = cond dead (stickZoned v moved n c (shrunk v x)) (record { event = moved; clears = false; clearing = moved; flags = v .flags })
+  zone dead = cond dead (stickZoned v hasaxis n c (shrunk v x)) (record { event = hasaxis; clears = false; clearing = hasaxis; flags = v .flags })
 
   sweeps-by : (cleared : Bool) → clearsPartner v (shrunk v x) ≡ cleared
-      → Sweeps (take (0 + oneIf cleared) (set (moved ∷ moved ∷ moved ∷ moved ∷ []) 0 (ev pad time (Axis (partnerOf n) (v .partner .code) zero32)))) (flagsAfter v (shrunk v x))
+      → Sweeps (take (0 + oneIf cleared) (set (hasaxis ∷ hasaxis ∷ hasaxis ∷ hasaxis ∷ []) 0 (ev pad time (Axis (partnerOf n) (v .partner .code) zero32)))) (flagsAfter v (shrunk v x))
   sweeps-by true e = clears (pair-stands v (shrunk v x) e) (pair-costs v (shrunk v x) e)
   sweeps-by false e = nothing
 
-  zone-sweeps : (dead : Bool) → Sweeps (take (0 + oneIf (zone dead .clears)) (set (moved ∷ moved ∷ moved ∷ moved ∷ []) 0 (zone dead .clearing))) (zone dead .flags)
+  zone-sweeps : (dead : Bool) → Sweeps (take (0 + oneIf (zone dead .clears)) (set (hasaxis ∷ hasaxis ∷ hasaxis ∷ hasaxis ∷ []) 0 (zone dead .clearing))) (zone dead .flags)
   unfolding stickZoned
   zone-sweeps true = sweeps-by (clearsPartner v (shrunk v x)) refl
   zone-sweeps false = nothing
 
   jitter-sweeps : (jitters : Bool)
-      → Sweeps (take (0 + oneIf (deadzonedOf v (cond jitters (dropped moved) moved) .clears)) (set (moved ∷ moved ∷ moved ∷ moved ∷ []) 0 (deadzonedOf v (cond jitters (dropped moved) moved) .clearing)))
-      (deadzonedOf v (cond jitters (dropped moved) moved) .flags)
+      → Sweeps (take (0 + oneIf (deadzonedOf v (cond jitters (dropped hasaxis) hasaxis) .clears)) (set (hasaxis ∷ hasaxis ∷ hasaxis ∷ hasaxis ∷ []) 0 (deadzonedOf v (cond jitters (dropped hasaxis) hasaxis) .clearing)))
+      (deadzonedOf v (cond jitters (dropped hasaxis) hasaxis) .flags)
   unfolding deadzonedOf
   jitter-sweeps true = nothing
   jitter-sweeps false = zone-sweeps (v .dead)
 
-  pub stick-sweeps : (v .converts && isHat n) ≡ false → Sweeps (moreOf v moved) (filteredOf true v moved .flags)
+  pub stick-sweeps : (v .converts && isHat n) ≡ false → Sweeps (moreOf v hasaxis) (filteredOf true v hasaxis .flags)
   unfolding moreOf filteredOf joined dpadOf jitteredOf queuedOf
   stick-sweeps free = rw free (jitter-sweeps (v .stored && jitterOf x (v .stick)))
 

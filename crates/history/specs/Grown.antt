@@ -1,4 +1,4 @@
--- What places tell after a registration: those of the pads before it what they told, and those of the new pad nothing. Assumes nothing.
+-- What places tell after a registration: those of the pads before it what they told, and those of the new pad nothing.
 use Prim.Native.Nat.{ℕ, _/_, _<_}
 use mathlib.Core.Bool.{Bool, true, false}
 use mathlib.Core.List.{List}
@@ -21,7 +21,7 @@ use Rattle.history.specs.Turns.{ev}
 use Rattle.history.specs.Waits.{sheetOf, All, empty, more, Fit, fit-pad}
 use Rattle.history.specs.Served.{due, dueBy, dueType, Waiting, away, value}
 use Rattle.history.specs.Serve.{Tells}
-use Rattle.history.specs.Register.{next, same-queue, same-hits, still-fits, more-pads, old-place, old-zoned, old-cell, old-moved, new-touched, new-moved, new-apart}
+use Rattle.history.specs.Register.{next, same-queue, same-hits, still-fits, more-pads, old-place, old-zoned, old-cell, old-hasaxis, new-hasbutton, new-hasaxis, new-apart}
 
 module _ (P : Float → Type 0) (alike : (a b : Float) → P a → P b → eq a b ≡ true → a ≡ b) (zero-fits : P zero32) (h : Hub) (s : List ℕ) (desk : Desk h)
     (ok : registerRefusal (h .pads) s ≡ 0) where
@@ -81,7 +81,7 @@ module _ (P : Float → Type 0) (alike : (a b : Float) → P a → P b → eq a 
           pressed = ap cellPressed cell ∙ t .pressed;
           value = old-due (cellValue (cellAt then k)) (t .waits) ∙ (ap (λ (x : Cell). due (sheetOf h) k (waitingList h) (cellValue x)) cell ∙ t .value);
           proper = subst P (sym (ap cellValue cell)) (t .proper);
-          still = old-moved h s desk ok p old k own ∙ t .still;
+          still = old-hasaxis h s desk ok p old k own ∙ t .still;
           waits = old-waits (t .waits);
         }))
 
@@ -108,7 +108,7 @@ module _ (P : Float → Type 0) (alike : (a b : Float) → P a → P b → eq a 
 
     pub new-tells : All (Fit (sheetOf h)) (waitingList h) → Tells P alike (sheetOf then) then j (waitingList then) false zero32
     new-tells fits =
-        let off = new-touched h s desk ok j new-own long in
+        let off = new-hasbutton h s desk ok j new-own long in
         let pressed : cellPressed (cellAt then j) ≡ false = unfold cellAt in rw off in
         let value : cellValue (cellAt then j) ≡ zero32 = unfold cellAt in rw off in
         subst (λ (q : List Event). Tells P alike (sheetOf then) then j q false zero32) (sym (same-queue h s desk ok))
@@ -116,6 +116,6 @@ module _ (P : Float → Type 0) (alike : (a b : Float) → P a → P b → eq a 
           pressed = pressed;
           value = new-due (cellValue (cellAt then j)) fits ∙ value;
           proper = subst P (sym value) zero-fits;
-          still = new-moved h s desk ok j new-own long;
+          still = new-hasaxis h s desk ok j new-own long;
           waits = new-waits fits;
         })

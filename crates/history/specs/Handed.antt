@@ -10,7 +10,7 @@ use native.Mathlib.Omega.{arith}
 use borrow.Author.Tests.{ltb-true}
 use Rattle.rules.specs.declared.Hub.{Hub}
 use Rattle.rules.specs.declared.Event.{Event}
-use Rattle.rules.specs.declared.Looked.{Looked}
+use Rattle.rules.specs.declared.NextRecord.{NextRecord}
 use Rattle.rules.specs.declared.RawRecord.{RawRecord}
 use Rattle.rules.specs.declared.Dispatched.{Dispatched}
 use Rattle.rules.specs.Names.{nowhere, noName, partnerOf, padLimit, flagsPerPad, flagOf}
@@ -20,7 +20,7 @@ use Rattle.rules.specs.Events.{nameOf}
 use Rattle.rules.specs.Filters.{filteredOf}
 use Rattle.rules.specs.Dispatch.{moveOf, dispatchBy, single}
 use Rattle.rules.specs.Hub.{elementAt, pressedAt, frontOf, viewAt, viewOf, flagPlace}
-use Rattle.rules.specs.Step.{blankRecord, joinRun, markedOf, flagsSet, pushedOf, turnedOf, updatedAt, updatedOf, filteredIn, takenOf, stepHub}
+use Rattle.rules.specs.Step.{blankRecord, marksCleared, markedOf, flagsSet, pushedOf, filteredHub, updatedAt, updatedOf, filteredIn, takenOf, stepHub}
 use Rattle.promises.specs.Waiting.{waitingList, restOf, popped, empty-rest}
 use Rattle.promises.specs.Queue.{pushesIn, nothing-lost}
 use Rattle.promises.specs.Reach.{reached-sound}
@@ -48,10 +48,10 @@ use Rattle.history.specs.Flags.{and-parts, upAt}
 
 -- ---- the flags after a step
 
-step-flags : (h : Hub) (l : Looked) → Ready h → (d : Dispatched) → takenOf h l ≡ d
+step-flags : (h : Hub) (l : NextRecord) → Ready h → (d : Dispatched) → takenOf h l ≡ d
     → stepHub h l .flags
     ≡ flagsSet (markedOf h (l .raw) .flags) (d .event .pad) (nameOf (d .event)) (filteredOf true (viewOf (markedOf h (l .raw)) (d .event)) (d .event) .flags)
-unfolding stepHub updatedOf updatedAt turnedOf pushedOf filteredIn
+unfolding stepHub updatedOf updatedAt filteredHub pushedOf filteredIn
 step-flags h l w d taken =
     ap
     (λ (on : Bool).
@@ -72,7 +72,7 @@ flagged h r w desk e =
     lone-partner stands none = omega (arith, ltb-true nowhere nowhere (ap (λ (m : ℕ). ltb (cond (eqb m 0) nowhere (namedOf (h .names) (e .pad) m)) nowhere) (sym none) ∙ stands))
 
 front-flags : (h : Hub) → markedOf h blankRecord .flags ≡ h .flags
-unfolding markedOf joinRun clearedOf
+unfolding markedOf marksCleared clearedOf
 front-flags h = refl
 
 -- ---- the two steps

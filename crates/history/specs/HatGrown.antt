@@ -21,7 +21,7 @@ use Rattle.history.specs.Rule.{directionCode}
 use Rattle.history.specs.Cells.{Cell, cellAt, cellType, Long}
 use Rattle.history.specs.Waits.{sheetOf, axialAt, All, empty, more, Fit, fit-pad}
 use Rattle.history.specs.Exact.{putAt, Apart}
-use Rattle.history.specs.Register.{next, same-queue, same-hits, still-fits, old-place, old-takes, old-name, old-kind, old-element, old-axial, old-cell, old-moved, new-touched, new-moved, new-apart}
+use Rattle.history.specs.Register.{next, same-queue, same-hits, still-fits, old-place, old-takes, old-name, old-kind, old-element, old-axial, old-cell, old-hasaxis, new-hasbutton, new-hasaxis, new-apart}
 use Rattle.history.specs.Written.{writes, Never, writes-more, never-more}
 use Rattle.history.specs.Sides.{Shows, Side, Opposed, side-by, opposed-by}
 use Rattle.history.specs.Hats.{Unlisted, Sheeted}
@@ -97,7 +97,7 @@ module _ (h : Hub) (s : List ℕ) (desk : Desk h) (ok : registerRefusal (h .pads
           let k = placeOf (h .codes) p c in
           subst (λ (i : ℕ). Side then i b) (sym (place c))
           (side-by then refl (same-queue h s desk ok) k (old-cell h s desk ok p old k (own c found))
-          (subst (λ (x : Cell). Shows x b) (sym (same-writes k (cellAt h k) fits)) (t .shows)) (old-moved h s desk ok p old k (own c found) ∙ t .still))
+          (subst (λ (x : Cell). Shows x b) (sym (same-writes k (cellAt h k) fits)) (t .shows)) (old-hasaxis h s desk ok p old k (own c found) ∙ t .still))
 
       pub old-opposed : (c d : ℕ) → placeOf (h .codes) p c < nowhere → placeOf (h .codes) p d < nowhere
           → Opposed h (placeOf (h .codes) p c) (placeOf (h .codes) p d) → Opposed then (placeOf (then .codes) p c) (placeOf (then .codes) p d)
@@ -127,14 +127,14 @@ module _ (h : Hub) (s : List ℕ) (desk : Desk h) (ok : registerRefusal (h .pads
       new-shows : Shows (cellAt then k) false
       unfolding cellAt
       new-shows =
-          let off = new-touched h s desk ok k new-own long in
+          let off = new-hasbutton h s desk ok k new-own long in
           record { pressed = rw off; value = rw off }
 
       pub new-side : Side then k false
       unfolding writes
       new-side =
           side-by then refl (same-queue h s desk ok) k refl
-          (subst (λ (x : Cell). Shows x false) (sym (writes-more (sheetOf then) k [] (cellAt then k) (apart fits))) new-shows) (new-moved h s desk ok k new-own long)
+          (subst (λ (x : Cell). Shows x false) (sym (writes-more (sheetOf then) k [] (cellAt then k) (apart fits))) new-shows) (new-hasaxis h s desk ok k new-own long)
 
     pub new-opposed : (c d : ℕ) → placeOf (then .codes) p c < nowhere → placeOf (then .codes) p d < nowhere
         → Opposed then (placeOf (then .codes) p c) (placeOf (then .codes) p d)

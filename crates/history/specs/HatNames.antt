@@ -1,4 +1,4 @@
--- Hats by their names and the codes of their directions: different hats have different directions. Assumes nothing.
+-- Hats by their names and the codes of their directions: different hats have different directions.
 use Prim.Native.Nat.{ℕ}
 use mathlib.Core.Bool.{Bool, true, false, cond, _&&_, _||_}
 use mathlib.Core.Path.{_≡_, refl, sym, _∙_}

@@ -25,7 +25,7 @@ use Rattle.rules.specs.Events.{queuedOf, nameOf}
 use Rattle.rules.specs.State.{readPressed}
 use Rattle.rules.specs.Dispatch.{pressing, moving, joining, leaving, moveOf, axisName, from, single, pressGives, moveGives}
 use Rattle.rules.specs.Filters.{hatBy, hatGives}
-use Rattle.rules.specs.Hub.{placeIn, elementAt, pastElement, pressedAt, movedAt, hatPlaceOf, hatPlace, viewAt, viewOf}
+use Rattle.rules.specs.Hub.{placeIn, elementAt, pastElement, pressedAt, hasAxisAt, hatPlaceOf, hatPlace, viewAt, viewOf}
 use Rattle.rules.specs.Step.{takenOf, markedOf, recordKind, stepHub}
 use Rattle.promises.specs.Waiting.{waitingList}
 use Rattle.promises.specs.Queue.{Sound}
@@ -41,7 +41,7 @@ use Rattle.history.specs.Views.{sees}
 use Rattle.history.specs.Accepted.{Good}
 use Rattle.history.specs.Take.{queueOf, Spares, taken-as}
 use Rattle.history.specs.Other.{Clear, move-aside, join-aside, leave-aside}
-use Rattle.history.specs.Records.{none-waits, cell-same, moved-same, cell-off, moved-off, silent-move, apart-by, joins-move, axis-kind}
+use Rattle.history.specs.Records.{none-waits, cell-same, hasaxis-same, cell-off, hasaxis-off, silent-move, apart-by, joins-move, axis-kind}
 use Rattle.history.specs.Concerned.{press-move, spoken-listed}
 use Rattle.history.specs.Written.{writes, Never, writes-more, never-now, never-more}
 use Rattle.history.specs.Sides.{Shows, Side, Opposed, Plain, Turn, viewBy, outBy, queueBy, taken-side, taken-opposed}
@@ -251,7 +251,7 @@ module _ (h : Hub) (w : Ready h) (desk : Desk h) (sound : Sound h) (p n : ℕ) (
         by true spoken = spoken-aside spoken other
         by false silent = silent-aside (silent-move (r .kind) silent)
 
-    spared-side : (b : Bool) → Shows (cell positive) b → movedAt seen k ≡ false → Aside → Side after k b
+    spared-side : (b : Bool) → Shows (cell positive) b → hasAxisAt seen k ≡ false → Aside → Side after k b
     unfolding writes
     spared-side b shows still a =
         taken-side h w sound r none k (u .plain .inside) b still
@@ -268,7 +268,7 @@ module _ (h : Hub) (w : Ready h) (desk : Desk h) (sound : Sound h) (p n : ℕ) (
     joined-aside e = silent-aside (inl (joins-move p r e))
 
     pub joined-side : rejoins p r ≡ true → Side after k false
-    joined-side e = spared-side false (joined-shows e) (moved-off h r w p k own (u .plain .inside) e) (joined-aside e)
+    joined-side e = spared-side false (joined-shows e) (hasaxis-off h r w p k own (u .plain .inside) e) (joined-aside e)
 
     -- any other
     module _ (away : rejoins p r ≡ false) where
@@ -280,8 +280,8 @@ module _ (h : Hub) (w : Ready h) (desk : Desk h) (sound : Sound h) (p n : ℕ) (
         unfolding writes
         shows = subst₂ (λ (q : List Event) (x : Cell). Shows (writes s k q x) b) (none-waits h none) (sym same) (t .shows)
 
-        still : movedAt seen k ≡ false
-        still = moved-same h r w p k own (u .plain .inside) away ∙ t .still
+        still : hasAxisAt seen k ≡ false
+        still = hasaxis-same h r w p k own (u .plain .inside) away ∙ t .still
 
         pub other-side : turns h p n r ≡ false → Side after k b
         other-side other = spared-side b shows still (other-aside other)

@@ -1,4 +1,4 @@
--- A column of one value; and marks taken off: n of them from a place on, and no other, and none is set. Assumes nothing.
+-- A column of one value; and marks taken off: n of them from a place on, and no other, and none is set.
 use Prim.Native.Nat.{ℕ, zero, suc, _+_, _<_, _≤_}
 use mathlib.Core.Bool.{Bool, true, false}
 use mathlib.Core.List.{List, [], _∷_}

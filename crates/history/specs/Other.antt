@@ -1,5 +1,5 @@
 -- A record that does not concern a place leaves what it tells: of another code, or one that joins or leaves another pad, or a hat's move where the place is
--- none of its directions. Assumes nothing.
+-- none of its directions.
 use Prim.Native.Nat.{ℕ, _<_}
 use mathlib.Core.Bool.{Bool, true, false, not, _&&_}
 use mathlib.Core.List.{[]}

@@ -1,5 +1,5 @@
 -- A record of a place's own code: what the place tells after its step. A button tells its last press or release; a trigger folds the two thresholds and tells
--- its value, cut by the deadzone. Assumes nothing.
+-- its value, cut by the deadzone.
 use Prim.Native.Nat.{ℕ, _<_}
 use mathlib.Core.Bool.{Bool, true, false, cond, not, _&&_}
 use mathlib.Core.List.{[], _∷_}

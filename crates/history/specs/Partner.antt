@@ -1,5 +1,5 @@
 -- The partner of an axis, looked up by its name, has a code whose place has that name: a place with a name is a listed element's, and a listed code is found
--- where it stands. So a clearing event is of an axis. Assumes nothing.
+-- where it stands. So a clearing event is of an axis.
 use Prim.Native.Nat.{ℕ, zero, suc, _+_, _-_, _*_, _<_}
 use mathlib.Core.Bool.{Bool, true, false, cond, _&&_}
 use mathlib.Core.List.{List, [], _∷_}

@@ -1,5 +1,5 @@
 -- The calls that demand 3 speaks of, and the records that were taken: a fresh hub with filters and updates on, registration, steps that take a record on an
--- empty queue or serve an event that waits, the counter, and a repeat that is fed back while its button is held. Assumes nothing.
+-- empty queue or serve an event that waits, the counter, and a repeat that is fed back while its button is held.
 use Prim.Native.Nat.{ℕ, zero, suc, _*_, _<_}
 use mathlib.Core.Bool.{Bool, true, false}
 use mathlib.Core.List.{List, [], _∷_}
@@ -66,7 +66,7 @@ fresh-ready pressed released reversed =
     record {
       filters = refl;
       updates = refl;
-      long = record { touched = refl; buttons = refl; moved = refl };
+      long = record { hasbutton = refl; buttons = refl; hasaxis = refl };
       named = λ p. all-same padLimit p false;
     }
 
@@ -83,9 +83,9 @@ register-ready zero h sheet w =
       updates = w .updates;
       long =
           record {
-            touched = cleared-length placesPerPad (h .touched) (placesPerPad * h .pads) ∙ w .long .touched;
+            hasbutton = cleared-length placesPerPad (h .hasbutton) (placesPerPad * h .pads) ∙ w .long .hasbutton;
             buttons = w .long .buttons;
-            moved = cleared-length placesPerPad (h .moved) (placesPerPad * h .pads) ∙ w .long .moved;
+            hasaxis = cleared-length placesPerPad (h .hasaxis) (placesPerPad * h .pads) ∙ w .long .hasaxis;
           };
       named = λ p. set-down (h .renamed) (h .pads) p (eqb p (h .pads)) (ltb (h .pads) (length (h .renamed))) refl refl (w .named p);
     }
@@ -99,9 +99,9 @@ update-ready h e w =
       updates = w .updates;
       long =
           record {
-            touched = length-set-of (h .touched) _ _ ∙ w .long .touched;
+            hasbutton = length-set-of (h .hasbutton) _ _ ∙ w .long .hasbutton;
             buttons = length-set-of (h .buttons) _ _ ∙ w .long .buttons;
-            moved = length-set-of (h .moved) _ _ ∙ w .long .moved;
+            hasaxis = length-set-of (h .hasaxis) _ _ ∙ w .long .hasaxis;
           };
       named = w .named;
     }
@@ -119,7 +119,7 @@ counted-ready h n w =
     record {
       filters = w .filters;
       updates = w .updates;
-      long = record { touched = w .long .touched; buttons = w .long .buttons; moved = w .long .moved };
+      long = record { hasbutton = w .long .hasbutton; buttons = w .long .buttons; hasaxis = w .long .hasaxis };
       named = w .named;
     }
 

@@ -15,7 +15,7 @@ use Rattle.rules.specs.Forms.{recordFields, readRecord, recordSize}
 use Rattle.rules.specs.Places.{oneIf}
 use Rattle.rules.specs.Refusals.{recordRefusal}
 use Rattle.rules.specs.Filters.{keptOf}
-use Rattle.rules.specs.Step.{lookedBy, lookedOf, recordKind, stepRefusal, stepEvent, stepHub}
+use Rattle.rules.specs.Step.{nextRecordBy, nextRecordOf, recordKind, stepRefusal, stepEvent, stepHub}
 use Rattle.rules.specs.Pump.{Progress, placeAfter, steppedBy, stepped, pumpOf}
 use Rattle.promises.specs.Machines.{placeSaid, eventsSaid, stepsSaid}
 use Rattle.promises.specs.Runs.{Goes, endOf, pump-holds}
@@ -35,17 +35,17 @@ data Makes (h : Hub) (s : List ℕ) (at : ℕ) (rs : List RawRecord) (b : ℕ) :
   takes : {g : Hub} → h .waiting ≡ 0 → Played g (recordFields s at ∷ rs) → Few (g .flags) (waitingList g) → Makes h s at rs b g (at + recordSize)
 
 record-makes : (h : Hub) (s : List ℕ) (at : ℕ) (rs : List RawRecord) (b : ℕ) → h .waiting ≡ 0
-    → recordRefusal (lookedBy (readRecord s at)) (h .pads) (recordKind h (lookedBy (readRecord s at) .raw)) ≡ 0 → Played h rs
-    → Makes h s at rs b (stepHub h (lookedBy (readRecord s at))) (at + recordSize)
+    → recordRefusal (nextRecordBy (readRecord s at)) (h .pads) (recordKind h (nextRecordBy (readRecord s at) .raw)) ≡ 0 → Played h rs
+    → Makes h s at rs b (stepHub h (nextRecordBy (readRecord s at))) (at + recordSize)
 unfolding readRecord
 record-makes h s at rs b none ok w =
     let fits = accepted-fits h s at ok in
     rw fits (takes none (take (recordFields s at) none (rw fits at ok) w) (take-few w (recordFields s at) none))
 
 hub-makes : (h : Hub) (s : List ℕ) (at : ℕ) (rs : List RawRecord) (b : ℕ) (waits : Bool) → ltb 0 (h .waiting) ≡ waits
-    → stepRefusal h (lookedOf (h .waiting) s at) ≡ 0 → Played h rs → Still h b
-    → Makes h s at rs b (stepHub h (lookedOf (h .waiting) s at)) (placeAfter (h .waiting) at)
-unfolding stepRefusal lookedOf placeAfter
+    → stepRefusal h (nextRecordOf (h .waiting) s at) ≡ 0 → Played h rs → Still h b
+    → Makes h s at rs b (stepHub h (nextRecordOf (h .waiting) s at)) (placeAfter (h .waiting) at)
+unfolding stepRefusal nextRecordOf placeAfter
 hub-makes h s at rs b true e ok w t =
     let some = ltb-true 0 (h .waiting) e in
     rw e (serves some (serve some w) (serve-less w some b t))
@@ -66,7 +66,7 @@ record Counts (p q : Progress) : Type 0 where
 step-counts : (s : List ℕ) (p : Progress) → Counts p (stepped s p)
 unfolding stepped steppedBy
 step-counts s p =
-    let b = keptOf (p .hub .filters) (stepEvent (p .hub) (lookedOf (p .hub .waiting) s (p .at))) in
+    let b = keptOf (p .hub .filters) (stepEvent (p .hub) (nextRecordOf (p .hub .waiting) s (p .at))) in
     record { step = refl; one = omega (arith, one-at-most b) }
   where
     one-at-most : (b : Bool) → oneIf b ≤ 1

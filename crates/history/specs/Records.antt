@@ -1,5 +1,4 @@
 -- A record that is taken, and a place: one that joins the place's pad makes it tell nothing, and one that does not concern it leaves what it tells.
--- Assumes nothing.
 use Prim.Native.Nat.{ℕ, _+_, _*_, _/_, _<_, _≤_}
 use mathlib.Core.Bool.{Bool, true, false, cond, _&&_, _||_}
 use mathlib.Core.List.{List, []}
@@ -22,8 +21,8 @@ use Rattle.rules.specs.Sheets.{elementAxis}
 use Rattle.rules.specs.Forms.{kindPressed, kindReleased, kindAxis, kindConnected}
 use Rattle.rules.specs.Places.{placeOf, clearedOf}
 use Rattle.rules.specs.Dispatch.{Move, pressing, moving, joining, leaving, moveOf, from, single, dispatchBy}
-use Rattle.rules.specs.Hub.{elementAt, pressedAt, movedAt, touchedAt, viewOf}
-use Rattle.rules.specs.Step.{takenOf, markedOf, joinRun, stepHub, recordKind}
+use Rattle.rules.specs.Hub.{elementAt, pressedAt, hasAxisAt, hasButtonAt, viewOf}
+use Rattle.rules.specs.Step.{takenOf, markedOf, marksCleared, stepHub, recordKind}
 use Rattle.promises.specs.Waiting.{waitingList, ringList}
 use Rattle.promises.specs.Queue.{Sound}
 use Rattle.pad.specs.Lookup.{Stands, place-stands, places-differ}
@@ -103,8 +102,8 @@ module _ (h : Hub) (r : RawRecord) (w : Ready h) (p k : ℕ) (own : k / placesPe
       past q p other own from = omega arith
 
   mark-same : (marks : List Bool) (same joins : Bool) → eqb (r .pad) p ≡ same → eqb (r .kind) kindConnected ≡ joins → (same && joins) ≡ false
-      → getD (clearedOf marks (placesPerPad * r .pad) (joinRun (r .kind) placesPerPad)) k false ≡ getD marks k false
-  unfolding joinRun
+      → getD (clearedOf marks (placesPerPad * r .pad) (marksCleared (r .kind) placesPerPad)) k false ≡ getD marks k false
+  unfolding marksCleared
   mark-same marks true true s j e = false-true (sym e)
   mark-same marks true false s j e = rw j (unfold clearedOf in refl)
   mark-same marks false true s j e = rw j (outside marks s (ltb k (placesPerPad * r .pad)) refl)
@@ -112,28 +111,28 @@ module _ (h : Hub) (r : RawRecord) (w : Ready h) (p k : ℕ) (own : k / placesPe
 
   pub cell-same : rejoins p r ≡ false → cellAt (markedOf h r) k ≡ cellAt h k
   unfolding rejoins cellAt markedOf
-  cell-same e = rw (mark-same (h .touched) (eqb (r .pad) p) (eqb (r .kind) kindConnected) refl refl e)
+  cell-same e = rw (mark-same (h .hasbutton) (eqb (r .pad) p) (eqb (r .kind) kindConnected) refl refl e)
 
-  pub moved-same : rejoins p r ≡ false → movedAt (markedOf h r) k ≡ movedAt h k
+  pub hasaxis-same : rejoins p r ≡ false → hasAxisAt (markedOf h r) k ≡ hasAxisAt h k
   unfolding rejoins markedOf
-  moved-same e = mark-same (h .moved) (eqb (r .pad) p) (eqb (r .kind) kindConnected) refl refl e
+  hasaxis-same e = mark-same (h .hasaxis) (eqb (r .pad) p) (eqb (r .kind) kindConnected) refl refl e
 
   mark-off : (marks : List Bool) (same joins : Bool) → eqb (r .pad) p ≡ same → eqb (r .kind) kindConnected ≡ joins → (same && joins) ≡ true
-      → length marks ≡ nowhere → getD (clearedOf marks (placesPerPad * r .pad) (joinRun (r .kind) placesPerPad)) k false ≡ false
-  unfolding joinRun
+      → length marks ≡ nowhere → getD (clearedOf marks (placesPerPad * r .pad) (marksCleared (r .kind) placesPerPad)) k false ≡ false
+  unfolding marksCleared
   mark-off marks true true s j e long =
       let pad = eqb-true (r .pad) p s in
       rw j (cleared-inside placesPerPad marks (placesPerPad * r .pad) k (omega arith) (omega arith) (omega arith))
   mark-off marks true false s j e long = false-true e
   mark-off marks false joins s j e long = false-true e
 
-  pub cell-off : rejoins p r ≡ true → touchedAt (markedOf h r) k ≡ false
+  pub cell-off : rejoins p r ≡ true → hasButtonAt (markedOf h r) k ≡ false
   unfolding rejoins markedOf
-  cell-off e = mark-off (h .touched) (eqb (r .pad) p) (eqb (r .kind) kindConnected) refl refl e (w .long .touched)
+  cell-off e = mark-off (h .hasbutton) (eqb (r .pad) p) (eqb (r .kind) kindConnected) refl refl e (w .long .hasbutton)
 
-  pub moved-off : rejoins p r ≡ true → movedAt (markedOf h r) k ≡ false
+  pub hasaxis-off : rejoins p r ≡ true → hasAxisAt (markedOf h r) k ≡ false
   unfolding rejoins markedOf
-  moved-off e = mark-off (h .moved) (eqb (r .pad) p) (eqb (r .kind) kindConnected) refl refl e (w .long .moved)
+  hasaxis-off e = mark-off (h .hasaxis) (eqb (r .pad) p) (eqb (r .kind) kindConnected) refl refl e (w .long .hasaxis)
 
 -- ---- what a place tells after a record
 
@@ -202,7 +201,7 @@ module _ (P : Float → Type 0) (alike : (a b : Float) → P a → P b → eq a 
   pub rejoined : rejoins p r ≡ true → After false zero32
   rejoined e =
       let off = cell-off h r w p k (stands .own) (pl .found) e in
-      let still = moved-off h r w p k (stands .own) (pl .found) e in
+      let still = hasaxis-off h r w p k (stands .own) (pl .found) e in
       let taken : takenOf h (lookAt r) ≡ single (from r Connected) = taken-as h r w none joining (joins-move p r e) in
       let pressed : cellPressed x ≡ false = unfold cellAt in rw off in
       let value : cellValue x ≡ zero32 = unfold cellAt in rw off in
@@ -217,8 +216,8 @@ module _ (P : Float → Type 0) (alike : (a b : Float) → P a → P b → eq a 
     pub same : x ≡ cellAt h k
     same = cell-same h r w p k (stands .own) (pl .found) away
 
-    pub still : movedAt (markedOf h r) k ≡ false
-    still = moved-same h r w p k (stands .own) (pl .found) away ∙ t .still
+    pub still : hasAxisAt (markedOf h r) k ≡ false
+    still = hasaxis-same h r w p k (stands .own) (pl .found) away ∙ t .still
 
     pub now-pressed : cellPressed x ≡ b
     now-pressed = ap cellPressed same ∙ t .pressed

@@ -1,5 +1,5 @@
 -- A registration leaves the other pads' codes alone, and the pads before it as they were: their codes are found where they were, with the same element, and
--- their state and their events stay. Assumes nothing.
+-- their state and their events stay.
 use Prim.Native.Nat.{ℕ, _+_, _*_, _/_, _<_, _≤_}
 use mathlib.Core.Bool.{Bool, true, false, _&&_}
 use mathlib.Core.List.{List, map}
@@ -16,7 +16,7 @@ use Rattle.rules.specs.Names.{padLimit, placesPerPad, nowhere, noName, isHat}
 use Rattle.rules.specs.Sheets.{countOf}
 use Rattle.rules.specs.Places.{placeOf, rowsOf}
 use Rattle.rules.specs.Events.{codeOf}
-use Rattle.rules.specs.Hub.{touchedAt, movedAt, pastElement}
+use Rattle.rules.specs.Hub.{hasButtonAt, hasAxisAt, pastElement}
 use Rattle.rules.specs.Calls.{laid, rowCode, rowKind, rowName, rowElement, registerRefusal, registeredAt, registerBy}
 use Rattle.promises.specs.Waiting.{waitingList}
 use Rattle.pad.specs.Lookup.{place-stands, places-differ}
@@ -114,28 +114,28 @@ module _ (h : Hub) (s : List ℕ) (desk : Desk h) (ok : registerRefusal (h .pads
 
       pub old-cell : cellAt next k ≡ cellAt h k
       unfolding cellAt registeredAt
-      old-cell = rw (cleared-before placesPerPad (h .touched) (placesPerPad * h .pads) k before)
+      old-cell = rw (cleared-before placesPerPad (h .hasbutton) (placesPerPad * h .pads) k before)
 
-      pub old-moved : movedAt next k ≡ movedAt h k
+      pub old-hasaxis : hasAxisAt next k ≡ hasAxisAt h k
       unfolding registeredAt
-      old-moved = cleared-before placesPerPad (h .moved) (placesPerPad * h .pads) k before
+      old-hasaxis = cleared-before placesPerPad (h .hasaxis) (placesPerPad * h .pads) k before
 
   -- ---- the new pad's places
 
   module _ (k : ℕ) (own : k / placesPerPad ≡ h .pads) (long : Long h) where
-    pub new-touched : touchedAt next k ≡ false
+    pub new-hasbutton : hasButtonAt next k ≡ false
     unfolding registeredAt
-    new-touched =
+    new-hasbutton =
         let f = few in
-        let l = long .touched in
-        cleared-inside placesPerPad (h .touched) (placesPerPad * h .pads) k (omega arith) (omega arith) (omega arith)
+        let l = long .hasbutton in
+        cleared-inside placesPerPad (h .hasbutton) (placesPerPad * h .pads) k (omega arith) (omega arith) (omega arith)
 
-    pub new-moved : movedAt next k ≡ false
+    pub new-hasaxis : hasAxisAt next k ≡ false
     unfolding registeredAt
-    new-moved =
+    new-hasaxis =
         let f = few in
-        let l = long .moved in
-        cleared-inside placesPerPad (h .moved) (placesPerPad * h .pads) k (omega arith) (omega arith) (omega arith)
+        let l = long .hasaxis in
+        cleared-inside placesPerPad (h .hasaxis) (placesPerPad * h .pads) k (omega arith) (omega arith) (omega arith)
 
   -- ---- events that wait
 

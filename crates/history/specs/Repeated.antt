@@ -46,16 +46,16 @@ clock-small after every clock ok =
 
 -- ---- a place that is due
 
-module _ (touched : List Bool) (buttons : List ButtonData) (after every clock : ℕ) where
+module _ (hasbutton : List Bool) (buttons : List ButtonData) (after every clock : ℕ) where
   abbrev button : ℕ → ButtonData
   button k = getD buttons k pastButton
 
   record Due (k : ℕ) : Type 0 where
-    pub known : getD touched k false ≡ true
+    pub known : getD hasbutton k false ≡ true
     pub pressed : button k .pressed ≡ true
     pub time : button k .stamp + waitOf (button k) after every ≤ clock
 
-  due-by : (k : ℕ) (known down past long : Bool) → getD touched k false ≡ known → button k .pressed ≡ down → leb (button k .stamp) clock ≡ past
+  due-by : (k : ℕ) (known down past long : Bool) → getD hasbutton k false ≡ known → button k .pressed ≡ down → leb (button k .stamp) clock ≡ past
       → leb (waitOf (button k) after every) (clock - button k .stamp) ≡ long → (known && (down && (past && long))) ≡ true → Due k
   due-by k true true true true t p s w e =
       let stamp = leb-true (button k .stamp) clock s in
@@ -66,30 +66,30 @@ module _ (touched : List Bool) (buttons : List ButtonData) (after every clock : 
   due-by k true false past long t p s w e = false-true e
   due-by k false down past long t p s w e = false-true e
 
-  due-here : (k : ℕ) (joined : Bool) → (joined && dueOf (getD touched k false) (button k) after every clock) ≡ true → Due k
+  due-here : (k : ℕ) (joined : Bool) → (joined && dueOf (getD hasbutton k false) (button k) after every clock) ≡ true → Due k
   unfolding dueOf
   due-here k true e = due-by k _ _ _ _ refl refl refl refl e
   due-here k false e = false-true e
 
   -- the scan stops at a place that is due
-  scan-due : (connected : List Bool) (n k : ℕ) → firstDue connected touched buttons after every clock n k < nowhere
-      → Due (firstDue connected touched buttons after every clock n k)
+  scan-due : (connected : List Bool) (n k : ℕ) → firstDue connected hasbutton buttons after every clock n k < nowhere
+      → Due (firstDue connected hasbutton buttons after every clock n k)
   unfolding firstDue
   scan-due connected zero k inside = absurd (omega arith)
   scan-due connected (suc n) k inside = by _ refl inside (scan-due connected n (k + 1))
     where
       rest : ℕ
-      rest = firstDue connected touched buttons after every clock n (k + 1)
+      rest = firstDue connected hasbutton buttons after every clock n (k + 1)
 
-      by : (here : Bool) → (getD connected (k / placesPerPad) false && dueOf (getD touched k false) (button k) after every clock) ≡ here
+      by : (here : Bool) → (getD connected (k / placesPerPad) false && dueOf (getD hasbutton k false) (button k) after every clock) ≡ here
           → cond here k rest < nowhere → (rest < nowhere → Due rest) → Due (cond here k rest)
       by true e inside later = due-here k (getD connected (k / placesPerPad) false) e
       by false e inside later = later inside
 
 place-due : (h : Hub) (after every clock : ℕ) → duePlace h after every clock < nowhere
-    → Due (h .touched) (h .buttons) after every clock (duePlace h after every clock)
+    → Due (h .hasbutton) (h .buttons) after every clock (duePlace h after every clock)
 unfolding duePlace
-place-due h after every clock inside = scan-due (h .touched) (h .buttons) after every clock (h .connected) nowhere 0 inside
+place-due h after every clock inside = scan-due (h .hasbutton) (h .buttons) after every clock (h .connected) nowhere 0 inside
 
 -- ---- the event's bytes
 
@@ -99,7 +99,7 @@ button-named n true e = rw (e, e)
 button-named n false e = rw e (unfold isButton in refl)
 
 module _ {h : Hub} {rs : List RawRecord} (w : Played h rs) (small : Small h) (after every clock : ℕ) (in-time : clock ≤ lastTime) (k : ℕ)
-    (inside : k < nowhere) (due : Due (h .touched) (h .buttons) after every clock k) where
+    (inside : k < nowhere) (due : Due (h .hasbutton) (h .buttons) after every clock k) where
   abbrev event : Event
   event = repeatedAt h k after every
 

@@ -1,5 +1,5 @@
 -- 01's history rule: what a code of a pad reads, told from the records that were taken, the newest first, and from the sheet. It knows no queue, no filter's
--- state and no cached record. Definitions only. Assumes nothing.
+-- state and no cached record. Definitions only.
 use Prim.Native.Nat.{ℕ, zero, suc, _+_, _<_}
 use mathlib.Core.Bool.{Bool, true, false, cond, not, _&&_, _||_}
 use mathlib.Core.List.{List, [], _∷_}

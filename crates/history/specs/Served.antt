@@ -1,5 +1,5 @@
 -- One event that waited, served: what it does to a place that no axis event is of. Its code's place reads pressed as before, and the value that the event
--- brings; any other place stays; what is queued behind it is an axis event of another place. Assumes nothing.
+-- brings; any other place stays; what is queued behind it is an axis event of another place.
 use Prim.Native.Nat.{ℕ, _<_}
 use mathlib.Core.Bool.{Bool, true, false, cond, _||_}
 use mathlib.Core.List.{List, [], _∷_, _++_}

@@ -15,14 +15,14 @@ use Rattle.rules.specs.Names.{nowhere}
 use Rattle.rules.specs.Sheets.{elementAxis}
 use Rattle.rules.specs.State.{writesAxisType}
 use Rattle.rules.specs.Dispatch.{amount, single}
-use Rattle.rules.specs.Hub.{movedAt, frontOf, viewOf}
+use Rattle.rules.specs.Hub.{hasAxisAt, frontOf, viewOf}
 use Rattle.rules.specs.Step.{blankRecord, markedOf, takenOf, stepHub}
 use Rattle.promises.specs.Waiting.{waitingList, restOf, popped, empty-rest}
 use Rattle.promises.specs.Queue.{Sound, pushesIn, nothing-lost}
 use Rattle.registered.specs.Pads.{Desk}
 use Rattle.history.specs.Cells.{Cell, cellAt, cellPressed, cellValue, hits}
 use Rattle.history.specs.Turns.{outOf, moreOf}
-use Rattle.history.specs.Steps.{Ready, look, lookAt, front-taken, front-cell, front-moved, pushes-of, cell-of, moved-of}
+use Rattle.history.specs.Steps.{Ready, look, lookAt, front-taken, front-cell, front-hasaxis, pushes-of, cell-of, hasaxis-of}
 use Rattle.history.specs.Waits.{Sheet, sheetOf, axialAt, All, head-of, Fit}
 use Rattle.history.specs.Exact.{putAt, movesAt, Apart, queues}
 use Rattle.history.specs.Views.{sees}
@@ -38,7 +38,7 @@ pub record Shows (x : Cell) (b : Bool) : Type 0 where
 -- a place, once all that waits is written
 pub record Side (h : Hub) (k : ℕ) (b : Bool) : Type 0 where
   pub shows : Shows (writes (sheetOf h) k (waitingList h) (cellAt h k)) b
-  pub still : movedAt h k ≡ false
+  pub still : hasAxisAt h k ≡ false
 
 -- two places, on the way
 abbrev pub Opposed : Hub → ℕ → ℕ → Type 0
@@ -46,7 +46,7 @@ Opposed h j k = Never (sheetOf h) j k (waitingList h) (cellAt h j) (cellAt h k)
 
 -- the same of a hub that is told by its sheets, by what waits and by what it holds
 module _ (h : Hub) {s : Sheet} {q : List Event} (sheet : sheetOf h ≡ s) (waits : waitingList h ≡ q) where
-  pub side-by : (k : ℕ) {x : Cell} {b : Bool} → cellAt h k ≡ x → Shows (writes s k q x) b → movedAt h k ≡ false → Side h k b
+  pub side-by : (k : ℕ) {x : Cell} {b : Bool} → cellAt h k ≡ x → Shows (writes s k q x) b → hasAxisAt h k ≡ false → Side h k b
   side-by k {x} {b} cell shows still =
       record {
         shows = subst₃ (λ (t : Sheet) (es : List Event) (y : Cell). Shows (writes t k es y) b) (sym sheet) (sym waits) (sym cell) shows;
@@ -90,10 +90,10 @@ module _ (h : Hub) (w : Ready h) (desk : Desk h) (sound : Sound h) (some : 0 < h
         cell-of h look w (single front) (front-taken h some) k (pl .inside)
         ∙ (ap (λ (x : Cell). putAt s k (outOf view front) x) (front-cell h k) ∙ exact .cell (cellAt h k))
 
-    served-still : movedAt h k ≡ false → movedAt (stepHub h look) k ≡ false
+    served-still : hasAxisAt h k ≡ false → hasAxisAt (stepHub h look) k ≡ false
     served-still still =
-        moved-of h look w (single front) (front-taken h some) k (pl .inside)
-        ∙ (ap (λ (m : Bool). cond (hits (h .codes) k (outOf view front)) (m || writesAxisType (outOf view front .event)) m) (front-moved h k ∙ still) ∙ exact .still)
+        hasaxis-of h look w (single front) (front-taken h some) k (pl .inside)
+        ∙ (ap (λ (m : Bool). cond (hits (h .codes) k (outOf view front)) (m || writesAxisType (outOf view front .event)) m) (front-hasaxis h k ∙ still) ∙ exact .still)
 
     -- what it queues is of other places
     later : All (Apart s k) (moreOf view front)
@@ -148,12 +148,12 @@ module _ (h : Hub) (w : Ready h) (sound : Sound h) (r : RawRecord) (none : h .wa
   taken-cell : (k : ℕ) → k < nowhere → cellAt after k ≡ putAt (sheetOf h) k (outBy h r) (cellAt seen k)
   taken-cell k inside = cell-of h (lookAt r) w gives refl k inside
 
-  taken-still : (k : ℕ) → k < nowhere → movedAt seen k ≡ false → movesAt (sheetOf h) k (outBy h r) ≡ false → movedAt after k ≡ false
+  taken-still : (k : ℕ) → k < nowhere → hasAxisAt seen k ≡ false → movesAt (sheetOf h) k (outBy h r) ≡ false → hasAxisAt after k ≡ false
   taken-still k inside still moves =
-      moved-of h (lookAt r) w gives refl k inside
+      hasaxis-of h (lookAt r) w gives refl k inside
       ∙ (ap (λ (m : Bool). cond (hits (h .codes) k (outBy h r)) (m || writesAxisType (outBy h r .event)) m) still ∙ moves)
 
-  pub taken-side : (k : ℕ) → k < nowhere → (b : Bool) → movedAt seen k ≡ false → Turn (sheetOf h) k (outBy h r) (queueBy h r) (cellAt seen k) b → Side after k b
+  pub taken-side : (k : ℕ) → k < nowhere → (b : Bool) → hasAxisAt seen k ≡ false → Turn (sheetOf h) k (outBy h r) (queueBy h r) (cellAt seen k) b → Side after k b
   taken-side k inside b still t =
       side-by after (same-sheet h (lookAt r)) taken-queue k (taken-cell k inside) (t .shows) (taken-still k inside still (t .still))
 

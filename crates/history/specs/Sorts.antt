@@ -1,5 +1,5 @@
 -- The sorts of codes that the rule tells of by their own records: buttons and triggers, and codes that are not listed, which have none. What makes a place one of them is kept by registration, and no other
--- call changes it. Assumes nothing.
+-- call changes it.
 use Prim.Native.Nat.{ℕ, _<_}
 use mathlib.Core.Bool.{true}
 use mathlib.Core.List.{List}
@@ -10,12 +10,12 @@ use Rattle.rules.specs.declared.Hub.{Hub}
 use Rattle.rules.specs.declared.Event.{Event}
 use Rattle.rules.specs.declared.Element.{Element}
 use Rattle.rules.specs.declared.RawRecord.{RawRecord}
-use Rattle.rules.specs.declared.Looked.{Looked}
+use Rattle.rules.specs.declared.NextRecord.{NextRecord}
 use Rattle.rules.specs.Names.{nowhere, noName, isButton}
 use Rattle.rules.specs.Sheets.{elementButton, elementAxis}
 use Rattle.rules.specs.Places.{placeOf}
 use Rattle.rules.specs.Hub.{elementAt, pastElement}
-use Rattle.rules.specs.Step.{updatedOf, updatedAt, turnedOf, pushedOf, markedOf, stepHub}
+use Rattle.rules.specs.Step.{updatedOf, updatedAt, filteredHub, pushedOf, markedOf, stepHub}
 use Rattle.rules.specs.Calls.{countedAt, registerRefusal, registeredAt}
 use Rattle.pad.specs.Lookup.{place-stands}
 use Rattle.registered.specs.Pads.{Desk}
@@ -102,8 +102,8 @@ module _ (h g : Hub) (a : Same h g) (p c : ℕ) where
             ∙ (ap (λ (l : List Element). getD l (placeOf (g .codes) p c) pastElement) (sym (a .elements)) ∙ i .element);
       }
 
-pub step-same : (h : Hub) (l : Looked) → Same h (stepHub h l)
-unfolding stepHub updatedOf updatedAt turnedOf pushedOf markedOf
+pub step-same : (h : Hub) (l : NextRecord) → Same h (stepHub h l)
+unfolding stepHub updatedOf updatedAt filteredHub pushedOf markedOf
 step-same h l =
     record { pads = refl; codes = refl; kinds = refl; names = refl; elements = refl; converts = refl; pressed = refl; released = refl; reversed = refl }
 

@@ -1,5 +1,5 @@
 -- A step of the hub, as the filters' answer to the event that is taken: what goes out is written to the state, what is queued waits behind. With filters and
--- updates on, and no pad renamed. Assumes nothing.
+-- updates on, and no pad renamed.
 use Prim.Native.Nat.{ℕ, _*_, _<_}
 use mathlib.Core.Bool.{Bool, true, false, cond, _||_}
 use mathlib.Core.List.{List, _∷_}
@@ -10,7 +10,7 @@ use lib.Seq.{getD-set-same, getD-set-other, set-out}
 use borrow.Author.Tests.{lt-ltb, eqb-true, eqb-false, ltb-true, ltb-false}
 use Rattle.rules.specs.declared.Hub.{Hub}
 use Rattle.rules.specs.declared.Event.{Event}
-use Rattle.rules.specs.declared.Looked.{Looked}
+use Rattle.rules.specs.declared.NextRecord.{NextRecord}
 use Rattle.rules.specs.declared.RawRecord.{RawRecord}
 use Rattle.rules.specs.declared.View.{View}
 use Rattle.rules.specs.declared.Dispatched.{Dispatched}
@@ -21,10 +21,10 @@ use Rattle.rules.specs.Events.{queuedOf}
 use Rattle.rules.specs.State.{writesAxisType}
 use Rattle.rules.specs.Filters.{filteredOf}
 use Rattle.rules.specs.Dispatch.{single}
-use Rattle.rules.specs.Hub.{placeIn, movedAt, frontOf, viewOf}
-use Rattle.rules.specs.Step.{blankRecord, recordGives, takenOf, markedOf, pushesOf, pushedOf, turnedOf, updatedOf, updatedAt, filteredIn, stepEvent, stepHub, joinRun, renamedAfter}
+use Rattle.rules.specs.Hub.{placeIn, hasAxisAt, frontOf, viewOf}
+use Rattle.rules.specs.Step.{blankRecord, recordGives, takenOf, markedOf, pushesOf, pushedOf, filteredHub, updatedOf, updatedAt, filteredIn, stepEvent, stepHub, marksCleared, renamedAfter}
 use Rattle.promises.specs.Queue.{pushesIn}
-use Rattle.history.specs.Cells.{Cell, cellAt, cellType, Long, hits, cell-after, moved-after}
+use Rattle.history.specs.Cells.{Cell, cellAt, cellType, Long, hits, cell-after, hasaxis-after}
 use Rattle.history.specs.Marks.{cleared-length}
 use Rattle.history.specs.Turns.{outOf, moreOf}
 
@@ -55,18 +55,18 @@ marked-ready h r w =
       updates = w .updates;
       long =
           record {
-            touched = cleared-length (joinRun (r .kind) placesPerPad) (h .touched) (placesPerPad * r .pad) ∙ w .long .touched;
+            hasbutton = cleared-length (marksCleared (r .kind) placesPerPad) (h .hasbutton) (placesPerPad * r .pad) ∙ w .long .hasbutton;
             buttons = w .long .buttons;
-            moved = cleared-length (joinRun (r .kind) placesPerPad) (h .moved) (placesPerPad * r .pad) ∙ w .long .moved;
+            hasaxis = cleared-length (marksCleared (r .kind) placesPerPad) (h .hasaxis) (placesPerPad * r .pad) ∙ w .long .hasaxis;
           };
       named = λ p. renamed-down (h .renamed) (r .pad) p (eqb (r .kind) kindConnected) (w .named p);
     }
 
-turned-long : (h : Hub) (d : Dispatched) → Long h → Long (turnedOf h d)
-unfolding turnedOf pushedOf
-turned-long h d l = record { touched = l .touched; buttons = l .buttons; moved = l .moved }
+turned-long : (h : Hub) (d : Dispatched) → Long h → Long (filteredHub h d)
+unfolding filteredHub pushedOf
+turned-long h d l = record { hasbutton = l .hasbutton; buttons = l .buttons; hasaxis = l .hasaxis }
 
-module _ (h : Hub) (l : Looked) (w : Ready h) where
+module _ (h : Hub) (l : NextRecord) (w : Ready h) where
   abbrev marked : Hub
   marked = markedOf h (l .raw)
 
@@ -88,20 +88,20 @@ module _ (h : Hub) (l : Looked) (w : Ready h) where
 
   -- the step before its state is written
   abbrev turned : Hub
-  turned = turnedOf marked (takenOf h l)
+  turned = filteredHub marked (takenOf h l)
 
   -- which events are of a place's code does not change
   same-hits : (k : ℕ) (e : Event) → hits (turned .codes) k e ≡ hits (h .codes) k e
-  unfolding hits turnedOf pushedOf markedOf
+  unfolding hits filteredHub pushedOf markedOf
   same-hits k e = refl
 
   same-cell : (k : ℕ) → cellAt turned k ≡ cellAt marked k
-  unfolding cellAt turnedOf pushedOf
+  unfolding cellAt filteredHub pushedOf
   same-cell k = refl
 
-  same-moved : (k : ℕ) → movedAt turned k ≡ movedAt marked k
-  unfolding turnedOf pushedOf
-  same-moved k = refl
+  same-hasaxis : (k : ℕ) → hasAxisAt turned k ≡ hasAxisAt marked k
+  unfolding filteredHub pushedOf
+  same-hasaxis k = refl
 
   module _ (k : ℕ) (inside : k < nowhere) where
     long : Long turned
@@ -119,20 +119,20 @@ module _ (h : Hub) (l : Looked) (w : Ready h) where
         ∙ (cell-after turned (outOf view event) k long inside
         ∙ cell-put (hits (h .codes) k (outOf view event)) (cellAt marked k) (outOf view event) (same-hits k (outOf view event)) (same-cell k)))
 
-    moved-put : (hit was : Bool) (e : Event) → hits (turned .codes) k e ≡ hit → movedAt turned k ≡ was
-        → cond (hits (turned .codes) k e) (movedAt turned k || writesAxisType (e .event)) (movedAt turned k) ≡ cond hit (was || writesAxisType (e .event)) was
-    moved-put hit was e same is = rw (same, is)
+    hasaxis-put : (hit was : Bool) (e : Event) → hits (turned .codes) k e ≡ hit → hasAxisAt turned k ≡ was
+        → cond (hits (turned .codes) k e) (hasAxisAt turned k || writesAxisType (e .event)) (hasAxisAt turned k) ≡ cond hit (was || writesAxisType (e .event)) was
+    hasaxis-put hit was e same is = rw (same, is)
 
-    pub step-moved : movedAt (stepHub h l) k ≡ cond (hits (h .codes) k (outOf view event)) (movedAt marked k || writesAxisType (outOf view event .event)) (movedAt marked k)
+    pub step-hasaxis : hasAxisAt (stepHub h l) k ≡ cond (hits (h .codes) k (outOf view event)) (hasAxisAt marked k || writesAxisType (outOf view event .event)) (hasAxisAt marked k)
     unfolding stepHub
-    step-moved =
-        ap (λ (on : Bool). movedAt (updatedOf on turned (stepEvent h l)) k) (w .updates)
-        ∙ (ap (λ (e : Event). movedAt (updatedOf true turned e) k) out-is
-        ∙ (moved-after turned (outOf view event) k long inside
-        ∙ moved-put (hits (h .codes) k (outOf view event)) (movedAt marked k) (outOf view event) (same-hits k (outOf view event)) (same-moved k)))
+    step-hasaxis =
+        ap (λ (on : Bool). hasAxisAt (updatedOf on turned (stepEvent h l)) k) (w .updates)
+        ∙ (ap (λ (e : Event). hasAxisAt (updatedOf true turned e) k) out-is
+        ∙ (hasaxis-after turned (outOf view event) k long inside
+        ∙ hasaxis-put (hits (h .codes) k (outOf view event)) (hasAxisAt marked k) (outOf view event) (same-hits k (outOf view event)) (same-hasaxis k)))
 
 -- the same for what is known to be taken
-module _ (h : Hub) (l : Looked) (w : Ready h) (d : Dispatched) (taken : takenOf h l ≡ d) where
+module _ (h : Hub) (l : NextRecord) (w : Ready h) (d : Dispatched) (taken : takenOf h l ≡ d) where
   abbrev seen : Hub
   seen = markedOf h (l .raw)
 
@@ -149,14 +149,14 @@ module _ (h : Hub) (l : Looked) (w : Ready h) (d : Dispatched) (taken : takenOf 
       step-cell h l w k inside
       ∙ ap (λ (t : Dispatched). cond (hits (h .codes) k (out t)) (cellType (out t .event) (cellAt seen k)) (cellAt seen k)) taken
 
-  pub moved-of : (k : ℕ) → k < nowhere → movedAt (stepHub h l) k ≡ cond (hits (h .codes) k (out d)) (movedAt seen k || writesAxisType (out d .event)) (movedAt seen k)
-  moved-of k inside =
-      step-moved h l w k inside
-      ∙ ap (λ (t : Dispatched). cond (hits (h .codes) k (out t)) (movedAt seen k || writesAxisType (out t .event)) (movedAt seen k)) taken
+  pub hasaxis-of : (k : ℕ) → k < nowhere → hasAxisAt (stepHub h l) k ≡ cond (hits (h .codes) k (out d)) (hasAxisAt seen k || writesAxisType (out d .event)) (hasAxisAt seen k)
+  hasaxis-of k inside =
+      step-hasaxis h l w k inside
+      ∙ ap (λ (t : Dispatched). cond (hits (h .codes) k (out t)) (hasAxisAt seen k || writesAxisType (out t .event)) (hasAxisAt seen k)) taken
 
 -- ---- a step from the queue
 
-abbrev pub look : Looked
+abbrev pub look : NextRecord
 look = record { raw = blankRecord; fits = true }
 
 pub front-taken : (h : Hub) → 0 < h .waiting → takenOf h look ≡ single (frontOf h)
@@ -165,16 +165,16 @@ front-taken h some = rw (lt-ltb 0 (h .waiting) some)
 
 -- it marks nothing
 pub front-cell : (h : Hub) (k : ℕ) → cellAt (markedOf h blankRecord) k ≡ cellAt h k
-unfolding cellAt markedOf joinRun clearedOf
+unfolding cellAt markedOf marksCleared clearedOf
 front-cell h k = refl
 
-pub front-moved : (h : Hub) (k : ℕ) → movedAt (markedOf h blankRecord) k ≡ movedAt h k
-unfolding markedOf joinRun clearedOf
-front-moved h k = refl
+pub front-hasaxis : (h : Hub) (k : ℕ) → hasAxisAt (markedOf h blankRecord) k ≡ hasAxisAt h k
+unfolding markedOf marksCleared clearedOf
+front-hasaxis h k = refl
 
 -- ---- a step that takes a record
 
-abbrev pub lookAt : RawRecord → Looked
+abbrev pub lookAt : RawRecord → NextRecord
 lookAt r = record { raw = r; fits = true }
 
 pub record-taken : (h : Hub) (r : RawRecord) → h .waiting ≡ 0 → takenOf h (lookAt r) ≡ recordGives h r (placeIn h (r .pad) (r .code))
@@ -183,24 +183,24 @@ record-taken h r none = rw none
 
 -- ---- what no step changes
 
-step-long : (h : Hub) (l : Looked) → Ready h → Long (stepHub h l)
-unfolding stepHub updatedOf updatedAt turnedOf pushedOf
+step-long : (h : Hub) (l : NextRecord) → Ready h → Long (stepHub h l)
+unfolding stepHub updatedOf updatedAt filteredHub pushedOf
 step-long h l w =
     record {
-      touched = length-set-of (markedOf h (l .raw) .touched) _ _ ∙ marked-ready h (l .raw) w .long .touched;
+      hasbutton = length-set-of (markedOf h (l .raw) .hasbutton) _ _ ∙ marked-ready h (l .raw) w .long .hasbutton;
       buttons = length-set-of (h .buttons) _ _ ∙ (unfold markedOf in w .long .buttons);
-      moved = length-set-of (markedOf h (l .raw) .moved) _ _ ∙ marked-ready h (l .raw) w .long .moved;
+      hasaxis = length-set-of (markedOf h (l .raw) .hasaxis) _ _ ∙ marked-ready h (l .raw) w .long .hasaxis;
     }
   where
     length-set-of : {A : Type 0} (xs : List A) (i : ℕ) (a : A) → length (set xs i a) ≡ length xs
     length-set-of xs i a = simp length-set
 
-pub step-ready : (h : Hub) (l : Looked) → Ready h → Ready (stepHub h l)
-unfolding stepHub updatedOf updatedAt turnedOf pushedOf
+pub step-ready : (h : Hub) (l : NextRecord) → Ready h → Ready (stepHub h l)
+unfolding stepHub updatedOf updatedAt filteredHub pushedOf
 step-ready h l w =
     record {
       filters = unfold markedOf in w .filters;
       updates = unfold markedOf in w .updates;
-      long = unfold stepHub updatedOf updatedAt turnedOf pushedOf in step-long h l w;
+      long = unfold stepHub updatedOf updatedAt filteredHub pushedOf in step-long h l w;
       named = marked-ready h (l .raw) w .named;
     }

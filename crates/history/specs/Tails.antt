@@ -1,5 +1,5 @@
 -- How many events what waits can still hand out: one for each event of a button, and for a lone axis event one more for each deadzone flag that is up of its
--- axis and the partner. A step from the queue makes it less. Assumes nothing.
+-- axis and the partner. A step from the queue makes it less.
 use Prim.Native.Nat.{ℕ, suc, _+_, _≤_}
 use mathlib.Core.Bool.{Bool, true, false, _&&_}
 use mathlib.Core.List.{List, [], _∷_, _++_, append-nil}

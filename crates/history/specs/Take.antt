@@ -1,4 +1,4 @@
--- A step that takes a record, on an empty queue: what a place tells after it, from what the filters make of the event that the record gives. Assumes nothing.
+-- A step that takes a record, on an empty queue: what a place tells after it, from what the filters make of the event that the record gives.
 use Prim.Native.Nat.{ℕ, _<_}
 use mathlib.Core.Bool.{Bool, true, false, cond, _&&_, _||_}
 use mathlib.Core.List.{List, _∷_, _++_}
@@ -20,13 +20,13 @@ use Rattle.rules.specs.Events.{codeType, codeOf, queuedOf}
 use Rattle.rules.specs.State.{writesAxisType}
 use Rattle.rules.specs.Filters.{Direction, hatBy, hatGives}
 use Rattle.rules.specs.Dispatch.{Move, moveOf, dispatchBy, dispatchOf, single, double}
-use Rattle.rules.specs.Hub.{placeIn, elementAt, pressedAt, movedAt, viewOf}
+use Rattle.rules.specs.Hub.{placeIn, elementAt, pressedAt, hasAxisAt, viewOf}
 use Rattle.rules.specs.Step.{recordGives, takenOf, markedOf, stepHub}
 use Rattle.promises.specs.Waiting.{waitingList, empty-rest}
 use Rattle.promises.specs.Queue.{Sound, pushesIn, nothing-lost}
 use Rattle.history.specs.Cells.{Cell, cellAt, cellPressed, cellValue, hits}
 use Rattle.history.specs.Turns.{ev, outOf, moreOf, plainType, plain-out, plain-more, hat-out, hat-more}
-use Rattle.history.specs.Steps.{Ready, lookAt, record-taken, pushes-of, cell-of, moved-of}
+use Rattle.history.specs.Steps.{Ready, lookAt, record-taken, pushes-of, cell-of, hasaxis-of}
 use Rattle.history.specs.Waits.{Sheet, sheetOf, axialAt, All, empty, more, Fit, press, release, change}
 use Rattle.history.specs.Exact.{Sees, putAt, movesAt, Apart, same-either, down-either, stays, queues}
 use Rattle.history.specs.Served.{due, Waiting, put, apart-waits, apart-later}
@@ -74,7 +74,7 @@ module _ (P : Float → Type 0) (alike : (a b : Float) → P a → P b → eq a 
     pub waits : All (Waiting P alike s k) (queueOf d v)
 
   module _ (h : Hub) (w : Ready h) (sound : Sound h) (r : RawRecord) (none : h .waiting ≡ 0) (k : ℕ) (inside : k < nowhere)
-      (still : movedAt (markedOf h r) k ≡ false) (d : Dispatched) (taken : takenOf h (lookAt r) ≡ d) (b : Bool) (f : Float) where
+      (still : hasAxisAt (markedOf h r) k ≡ false) (d : Dispatched) (taken : takenOf h (lookAt r) ≡ d) (b : Bool) (f : Float) where
     pub take-tells : Fine (sheetOf h) k d (viewOf (markedOf h r) (d .event)) (cellAt (markedOf h r) k) b f
         → Tells P alike (sheetOf (stepHub h (lookAt r))) (stepHub h (lookAt r)) k (waitingList (stepHub h (lookAt r))) b f
     take-tells z =
@@ -91,7 +91,7 @@ module _ (P : Float → Type 0) (alike : (a b : Float) → P a → P b → eq a 
               ∙ (ap (λ (y : Float). due s k (queueOf d v) y) (ap cellValue cell) ∙ z .value);
           proper = subst P (sym (ap cellValue cell)) (z .proper);
           still =
-              moved-of h (lookAt r) w d taken k inside
+              hasaxis-of h (lookAt r) w d taken k inside
               ∙ (ap (λ (m : Bool). cond (hits (h .codes) k (outOf v (d .event))) (m || writesAxisType (outOf v (d .event) .event)) m) still ∙ z .still);
           waits = subst (All (Waiting P alike s k)) (sym queue) (z .waits);
         })

@@ -1,5 +1,4 @@
 -- Whatever is played, only events of buttons, and axis events that no conversion takes, wait, all of registered pads.
--- Assumes nothing.
 use Prim.Native.Nat.{ℕ, zero, suc, _+_, _<_}
 use mathlib.Core.Bool.{true, false}
 use mathlib.Core.List.{List, [], _++_}

@@ -14,13 +14,13 @@ use borrow.Author.Tests.{eqb-true, eqb-false}
 use Rattle.rules.specs.declared.Hub.{Hub}
 use Rattle.rules.specs.declared.Event.{Event}
 use Rattle.rules.specs.declared.EventForm.{EventForm}
-use Rattle.rules.specs.declared.Looked.{Looked}
+use Rattle.rules.specs.declared.NextRecord.{NextRecord}
 use Rattle.rules.specs.declared.RawRecord.{RawRecord}
 use Rattle.rules.specs.Names.{placesPerPad, nowhere}
 use Rattle.rules.specs.Refusals.{thresholdsRefusal}
 use Rattle.rules.specs.Events.{codeOf, formEvent}
-use Rattle.rules.specs.Hub.{placeIn, touchedAt}
-use Rattle.rules.specs.Step.{joinRun, markedOf, pushedOf, turnedOf, takenOf, updatedAt, updatedOf, stepEvent, stepHub}
+use Rattle.rules.specs.Hub.{placeIn, hasButtonAt}
+use Rattle.rules.specs.Step.{marksCleared, markedOf, pushedOf, filteredHub, takenOf, updatedAt, updatedOf, stepEvent, stepHub}
 use Rattle.rules.specs.Calls.{freshHub, newBy, newOf, registeredAt, registerRefusal, registerBy, registerOf, updateFormBy, countedAt, incOf, resetOf}
 use Rattle.pad.specs.Lookup.{place-stands}
 use Rattle.registered.specs.Converts.{place-same}
@@ -29,15 +29,15 @@ use Rattle.history.specs.Cells.{Long}
 use Rattle.history.specs.Marks.{all-same, still-there}
 use Rattle.history.specs.Truth.{false-true}
 use Rattle.history.specs.Steps.{look, lookAt}
-use Rattle.history.specs.Register.{next, same-codes, new-touched}
+use Rattle.history.specs.Register.{next, same-codes, new-hasbutton}
 use Rattle.history.specs.Played.{Played, fresh, register, take, serve, inc, reset, repeat, reached, ready, refusal, update-is}
 
 pub record Found (h : Hub) : Type 0 where
-  pub at : (k : ℕ) → k < nowhere → touchedAt h k ≡ true → placeIn h (k / placesPerPad) (getD (h .codes) k 0) ≡ k
+  pub at : (k : ℕ) → k < nowhere → hasButtonAt h k ≡ true → placeIn h (k / placesPerPad) (getD (h .codes) k 0) ≡ k
 
 -- ---- the calls that make no record
 
-fewer : (h g : Hub) → g .codes ≡ h .codes → ((k : ℕ) → touchedAt g k ≡ true → touchedAt h k ≡ true) → Found h → Found g
+fewer : (h g : Hub) → g .codes ≡ h .codes → ((k : ℕ) → hasButtonAt g k ≡ true → hasButtonAt h k ≡ true) → Found h → Found g
 fewer h g codes was f = record { at = λ k inside up. rw codes (f .at k inside (was k up)) }
 
 fresh-found : (number : ℕ) (pressed released : Float) (reversed : Bool) → number ≡ 0
@@ -56,17 +56,17 @@ module _ (h : Hub) (s : List ℕ) (desk : Desk h) (ok : registerRefusal (h .pads
   abbrev then : Hub
   then = next h s desk ok
 
-  was-touched : (k : ℕ) → touchedAt then k ≡ true → touchedAt h k ≡ true
+  was-hasbutton : (k : ℕ) → hasButtonAt then k ≡ true → hasButtonAt h k ≡ true
   unfolding registeredAt
-  was-touched k up = still-there placesPerPad (h .touched) (placesPerPad * h .pads) k up
+  was-hasbutton k up = still-there placesPerPad (h .hasbutton) (placesPerPad * h .pads) k up
 
-  register-at : (k : ℕ) → k < nowhere → touchedAt then k ≡ true → (new : Bool) → eqb (k / placesPerPad) (h .pads) ≡ new
+  register-at : (k : ℕ) → k < nowhere → hasButtonAt then k ≡ true → (new : Bool) → eqb (k / placesPerPad) (h .pads) ≡ new
       → placeIn then (k / placesPerPad) (getD (then .codes) k 0) ≡ k
-  register-at k inside up true e = false-true (sym (new-touched h s desk ok k (eqb-true (k / placesPerPad) (h .pads) e) long) ∙ up)
+  register-at k inside up true e = false-true (sym (new-hasbutton h s desk ok k (eqb-true (k / placesPerPad) (h .pads) e) long) ∙ up)
   register-at k inside up false e =
       let same = same-codes h s desk ok (k / placesPerPad) (eqb-false (k / placesPerPad) (h .pads) e) in
       ap (λ (c : ℕ). placeIn then (k / placesPerPad) c) (same .at k 0 (omega arith) (omega arith))
-      ∙ (place-same (then .codes) (h .codes) (k / placesPerPad) (getD (h .codes) k 0) same ∙ f .at k inside (was-touched k up))
+      ∙ (place-same (then .codes) (h .codes) (k / placesPerPad) (getD (h .codes) k 0) same ∙ f .at k inside (was-hasbutton k up))
 
 register-found : (number : ℕ) (h : Hub) (s : List ℕ) → Desk h → Long h → registerRefusal (h .pads) s ≡ number → Found h
     → Found (registerBy number h s .hub)
@@ -80,14 +80,14 @@ module _ (on : Bool) (h : Hub) (e : Event) (f : Found h) where
   abbrev written : ℕ
   written = placeIn h (e .pad) (codeOf e)
 
-  update-at : (k : ℕ) → k < nowhere → touchedAt (updatedOf on h e) k ≡ true → (own : Bool) → eqb k written ≡ own
+  update-at : (k : ℕ) → k < nowhere → hasButtonAt (updatedOf on h e) k ≡ true → (own : Bool) → eqb k written ≡ own
       → placeIn h (k / placesPerPad) (getD (h .codes) k 0) ≡ k
   unfolding updatedOf updatedAt
   update-at k inside up true own =
       let here = eqb-true k written own in
       let stands = place-stands (h .codes) (e .pad) (codeOf e) (omega arith) in
       rw (here, stands .own, stands .has)
-  update-at k inside up false own = f .at k inside (sym (getD-set-other (h .touched) written k _ false (eqb-false k written own)) ∙ up)
+  update-at k inside up false own = f .at k inside (sym (getD-set-other (h .hasbutton) written k _ false (eqb-false k written own)) ∙ up)
 
   update-found : Found (updatedOf on h e)
   update-found = record { at = λ k inside up. unfold updatedOf updatedAt in update-at k inside up (eqb k written) refl }
@@ -96,11 +96,11 @@ form-found : (number : ℕ) (h : Hub) (g : EventForm) → Found h → Found (upd
 form-found zero h g f = update-found true h (formEvent g) f
 form-found (suc number) h g f = f
 
-step-found : (h : Hub) (l : Looked) → Found h → Found (stepHub h l)
-unfolding stepHub turnedOf pushedOf markedOf
+step-found : (h : Hub) (l : NextRecord) → Found h → Found (stepHub h l)
+unfolding stepHub filteredHub pushedOf markedOf
 step-found h l f =
-    update-found (h .updates) (turnedOf (markedOf h (l .raw)) (takenOf h l)) (stepEvent h l)
-    (fewer h _ refl (λ k up. still-there (joinRun (l .raw .kind) placesPerPad) (h .touched) (placesPerPad * l .raw .pad) k up) f)
+    update-found (h .updates) (filteredHub (markedOf h (l .raw)) (takenOf h l)) (stepEvent h l)
+    (fewer h _ refl (λ k up. still-there (marksCleared (l .raw .kind) placesPerPad) (h .hasbutton) (placesPerPad * l .raw .pad) k up) f)
 
 -- ---- whatever is played
 

@@ -1,4 +1,4 @@
--- true is not false. Assumes nothing.
+-- true is not false.
 use Prim.Native.Nat.{ℕ}
 use mathlib.Core.Bool.{true, false}
 use mathlib.Core.Path.{_≡_}

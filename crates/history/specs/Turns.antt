@@ -1,5 +1,5 @@
 -- What the filters make of one event, by its case: a press or a release passes; a button's value passes the deadzone; an axis event stays one, or is dropped,
--- and may clear its partner; on a converting pad a hat's axis event becomes the events of its directions. Assumes nothing.
+-- and may clear its partner; on a converting pad a hat's axis event becomes the events of its directions.
 use Prim.Native.Nat.{ℕ, _+_}
 use mathlib.Core.Bool.{Bool, true, false, cond, _&&_}
 use mathlib.Core.List.{List, [], _∷_}
@@ -103,14 +103,14 @@ pub data Clears (v : View) (pad time n : ℕ) : List Event → Type 0 where
   one : v .partner .stands ≡ true → Clears v pad time n (ev pad time (Axis (partnerOf n) (v .partner .code) zero32) ∷ [])
 
 module _ (v : View) (pad time n c : ℕ) (x : Float) where
-  abbrev moved : Event
-  moved = ev pad time (Axis n c x)
+  abbrev hasaxis : Event
+  hasaxis = ev pad time (Axis n c x)
 
   -- what the deadzone makes of it
   abbrev zone : Bool → Zoned
-  zone dead = cond dead (stickZoned v moved n c (shrunk v x)) (record { event = moved; clears = false; clearing = moved; flags = v .flags })
+  zone dead = cond dead (stickZoned v hasaxis n c (shrunk v x)) (record { event = hasaxis; clears = false; clearing = hasaxis; flags = v .flags })
 
-  unless-moves : (same : Bool) (t : Float) → Moves pad time n c (unless same moved (Axis n c t))
+  unless-moves : (same : Bool) (t : Float) → Moves pad time n c (unless same hasaxis (Axis n c t))
   unless-moves true t = lost
   unless-moves false t = sent
 
@@ -119,7 +119,7 @@ module _ (v : View) (pad time n c : ℕ) (x : Float) where
   zone-moves true = unless-moves (eq (v .own) (shrunk v x .x)) (shrunk v x .x)
   zone-moves false = sent
 
-  jitter-moves : (jitters : Bool) → Moves pad time n c (deadzonedOf v (cond jitters (dropped moved) moved) .event)
+  jitter-moves : (jitters : Bool) → Moves pad time n c (deadzonedOf v (cond jitters (dropped hasaxis) hasaxis) .event)
   unfolding deadzonedOf
   jitter-moves true = lost
   jitter-moves false = zone-moves (v .dead)
@@ -129,35 +129,35 @@ module _ (v : View) (pad time n c : ℕ) (x : Float) where
   stands false b e = e
 
   clears-by : (clears : Bool) → clearsPartner v (shrunk v x) ≡ clears
-      → Clears v pad time n (take (0 + oneIf clears) (set (moved ∷ moved ∷ moved ∷ moved ∷ []) 0 (ev pad time (Axis (partnerOf n) (v .partner .code) zero32))))
+      → Clears v pad time n (take (0 + oneIf clears) (set (hasaxis ∷ hasaxis ∷ hasaxis ∷ hasaxis ∷ []) 0 (ev pad time (Axis (partnerOf n) (v .partner .code) zero32))))
   unfolding clearsPartner
   clears-by true e = one (stands (v .partner .stands) _ e)
   clears-by false e = none
 
-  zone-clears : (dead : Bool) → Clears v pad time n (take (0 + oneIf (zone dead .clears)) (set (moved ∷ moved ∷ moved ∷ moved ∷ []) 0 (zone dead .clearing)))
+  zone-clears : (dead : Bool) → Clears v pad time n (take (0 + oneIf (zone dead .clears)) (set (hasaxis ∷ hasaxis ∷ hasaxis ∷ hasaxis ∷ []) 0 (zone dead .clearing)))
   unfolding stickZoned
   zone-clears true = clears-by (clearsPartner v (shrunk v x)) refl
   zone-clears false = none
 
   jitter-clears : (jitters : Bool)
-      → Clears v pad time n (take (0 + oneIf (deadzonedOf v (cond jitters (dropped moved) moved) .clears)) (set (moved ∷ moved ∷ moved ∷ moved ∷ []) 0 (deadzonedOf v (cond jitters (dropped moved) moved) .clearing)))
+      → Clears v pad time n (take (0 + oneIf (deadzonedOf v (cond jitters (dropped hasaxis) hasaxis) .clears)) (set (hasaxis ∷ hasaxis ∷ hasaxis ∷ hasaxis ∷ []) 0 (deadzonedOf v (cond jitters (dropped hasaxis) hasaxis) .clearing)))
   unfolding deadzonedOf
   jitter-clears true = none
   jitter-clears false = zone-clears (v .dead)
 
-  pub stick-out : (v .converts && isHat n) ≡ false → Moves pad time n c (outOf v moved)
+  pub stick-out : (v .converts && isHat n) ≡ false → Moves pad time n c (outOf v hasaxis)
   unfolding outOf filteredOf joined dpadOf jitteredOf
   stick-out free = rw (outOf, free) (jitter-moves (v .stored && jitterOf x (v .stick)))
 
-  pub stick-more : (v .converts && isHat n) ≡ false → Clears v pad time n (moreOf v moved)
+  pub stick-more : (v .converts && isHat n) ≡ false → Clears v pad time n (moreOf v hasaxis)
   unfolding moreOf filteredOf joined dpadOf jitteredOf queuedOf
   stick-more free = rw free (jitter-clears (v .stored && jitterOf x (v .stick)))
 
   -- ---- a hat's axis event on a converting pad
 
   hat-passes : (o m p q : Bool) (plus minus : Direction)
-      → joined (hatBy o m p q moved plus minus) (deadzonedOf v (jitteredOf v (hatBy o m p q moved plus minus .event))) .gives .event
-      ≡ hatBy o m p q moved plus minus .event
+      → joined (hatBy o m p q hasaxis plus minus) (deadzonedOf v (jitteredOf v (hatBy o m p q hasaxis plus minus .event))) .gives .event
+      ≡ hatBy o m p q hasaxis plus minus .event
   unfolding joined hatBy deadzonedOf jitteredOf
   hat-passes true m p false plus minus = refl
   hat-passes true m p true plus minus = refl
@@ -169,8 +169,8 @@ module _ (v : View) (pad time n c : ℕ) (x : Float) where
   hat-passes false false true true plus minus = refl
 
   hat-queues : (o m p q : Bool) (plus minus : Direction)
-      → queuedOf (joined (hatBy o m p q moved plus minus) (deadzonedOf v (jitteredOf v (hatBy o m p q moved plus minus .event))) .gives)
-      ≡ queuedOf (hatBy o m p q moved plus minus)
+      → queuedOf (joined (hatBy o m p q hasaxis plus minus) (deadzonedOf v (jitteredOf v (hatBy o m p q hasaxis plus minus .event))) .gives)
+      ≡ queuedOf (hatBy o m p q hasaxis plus minus)
   unfolding joined hatBy deadzonedOf jitteredOf queuedOf
   hat-queues true m p false plus minus = refl
   hat-queues true m p true plus minus = refl
@@ -181,14 +181,14 @@ module _ (v : View) (pad time n c : ℕ) (x : Float) where
   hat-queues false false false true plus minus = refl
   hat-queues false false true true plus minus = refl
 
-  pub hat-out : (v .converts && isHat n) ≡ true → outOf v moved ≡ hatGives v moved n x .event
+  pub hat-out : (v .converts && isHat n) ≡ true → outOf v hasaxis ≡ hatGives v hasaxis n x .event
   unfolding outOf filteredOf dpadOf hatGives
   hat-out taken =
       rw (outOf, taken)
       (hat-passes (eq x one32) (eq x minusOne32) (v .positive) (v .negative) (record { name = positiveName n; code = positiveCode n })
       (record { name = negativeName n; code = negativeCode n }))
 
-  pub hat-more : (v .converts && isHat n) ≡ true → moreOf v moved ≡ queuedOf (hatGives v moved n x)
+  pub hat-more : (v .converts && isHat n) ≡ true → moreOf v hasaxis ≡ queuedOf (hatGives v hasaxis n x)
   unfolding moreOf filteredOf dpadOf hatGives
   hat-more taken =
       rw taken

@@ -1,4 +1,4 @@
--- What the filters see for an event, on a hub that is played. Assumes nothing.
+-- What the filters see for an event, on a hub that is played.
 use Prim.Native.Nat.{ℕ, _<_}
 use mathlib.Core.Bool.{Bool, true, false, cond}
 use mathlib.Core.List.{List}
@@ -12,7 +12,7 @@ use Rattle.rules.specs.Names.{nowhere, partnerOf}
 use Rattle.rules.specs.Places.{placeOf, namedOf, presentNames}
 use Rattle.rules.specs.Events.{nameOf, codeOf}
 use Rattle.rules.specs.State.{readValue}
-use Rattle.rules.specs.Hub.{placeIn, movedAt, valueAt, convertsIn, convertsNow, partnerPlaceOf, partnerPlace, viewAt, viewOf}
+use Rattle.rules.specs.Hub.{placeIn, hasAxisAt, valueAt, convertsIn, convertsNow, partnerPlaceOf, partnerPlace, viewAt, viewOf}
 use Rattle.rules.specs.Step.{markedOf}
 use Rattle.registered.specs.Pads.{Desk}
 use Rattle.history.specs.Cells.{cellAt, cellValue}
@@ -32,7 +32,7 @@ module _ (h : Hub) (r : RawRecord) (w : Ready h) (desk : Desk h) (e : Event) whe
   converts-are : convertsNow marked (e .pad) ≡ getD (h .converts) (e .pad) false
   unfolding convertsIn
   converts-are =
-      ap (λ (b : Bool). cond b (getD (marked .reconverts) (e .pad) false) (getD (marked .converts) (e .pad) false)) (marked-ready h r w .named (e .pad))
+      ap (λ (b : Bool). cond b (getD (marked .newconverts) (e .pad) false) (getD (marked .converts) (e .pad) false)) (marked-ready h r w .named (e .pad))
       ∙ (unfold markedOf in refl)
 
   pub partner-is : partnerPlace marked (e .pad) (nameOf e) ≡ cond (eqb (partnerOf (nameOf e)) 0) nowhere (namedOf (h .names) (e .pad) (partnerOf (nameOf e)))
@@ -51,7 +51,7 @@ module _ (h : Hub) (r : RawRecord) (w : Ready h) (desk : Desk h) (e : Event) whe
   sees = record { converts = converts-are; dead = refl; threshold = refl; partner = partner-code }
 
 -- the value that the state has for a code without an axis record
-pub own-is : (h : Hub) (r : RawRecord) (e : Event) (k : ℕ) → placeOf (h .codes) (e .pad) (codeOf e) ≡ k → movedAt (markedOf h r) k ≡ false
+pub own-is : (h : Hub) (r : RawRecord) (e : Event) (k : ℕ) → placeOf (h .codes) (e .pad) (codeOf e) ≡ k → hasAxisAt (markedOf h r) k ≡ false
     → viewOf (markedOf h r) e .own ≡ cellValue (cellAt (markedOf h r) k)
 unfolding viewOf viewAt valueAt readValue cellAt
 own-is h r e k here still =

@@ -1,5 +1,5 @@
 -- What may wait in the queue, told by the sheets alone: events of buttons, and axis events of codes that are axes and that no conversion takes. A place whose
--- element is a button's, or that has none, is never written by an axis event. Assumes nothing.
+-- element is a button's, or that has none, is never written by an axis event.
 use Prim.Native.Nat.{ℕ, _<_}
 use mathlib.Core.Bool.{Bool, true, false, cond, not, _&&_, _||_}
 use mathlib.Core.List.{List, [], _∷_, _++_}

@@ -1,5 +1,5 @@
 -- A place without a deadzone, such as an unlisted direction's: what it holds once all that waits is written, one event after the other as they are. A step
--- from the queue does not change it, since what it serves goes out as it waited. Assumes nothing.
+-- from the queue does not change it, since what it serves goes out as it waited.
 use Prim.Native.Nat.{ℕ}
 use mathlib.Core.Bool.{Bool, true, false, cond, _&&_}
 use mathlib.Core.List.{List, [], _∷_, _++_}

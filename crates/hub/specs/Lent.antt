@@ -29,8 +29,8 @@ pub record Listed : Type 0 where
 
 -- marks, records and queue: what steps change
 pub record Columns : Type 0 where
-  pub touched : List Bool
-  pub moved : List Bool
+  pub hasbutton : List Bool
+  pub hasaxis : List Bool
   pub values : List Float
   pub times : List ℕ
   pub marks : List Bool
@@ -41,10 +41,10 @@ abbrev pub listed : List ℕ → List ℕ → List ℕ → List ℕ → Listed
 listed codes kinds names renames = record { codes = codes; kinds = kinds; names = names; renames = renames }
 
 abbrev pub columns : List Bool → List Bool → List Float → List ℕ → List Bool → List ℕ → List ℕ → Columns
-columns touched moved values times marks queuebytes queuecodes =
+columns hasbutton hasaxis values times marks queuebytes queuecodes =
     record {
-      touched = touched;
-      moved = moved;
+      hasbutton = hasbutton;
+      hasaxis = hasaxis;
       values = values;
       times = times;
       marks = marks;
@@ -56,7 +56,7 @@ columns touched moved values times marks queuebytes queuecodes =
 
 -- of a head, of what the pads list, of the marks and of the records
 abbrev pub hubFrom : Head → Listed → List Bool → List Bool → List Element → List ButtonData → List AxisData → List Slot → Hub
-hubFrom d s touched moved elements buttons axes queue =
+hubFrom d s hasbutton hasaxis elements buttons axes queue =
     record {
       pressed = d .pressed;
       released = d .released;
@@ -70,16 +70,16 @@ hubFrom d s touched moved elements buttons axes queue =
       hats = d .hats;
       converts = d .converts;
       renamed = d .renamed;
-      rehats = d .rehats;
-      reconverts = d .reconverts;
+      newhats = d .newhats;
+      newconverts = d .newconverts;
       codes = s .codes;
       kinds = s .kinds;
       names = s .names;
       renames = s .renames;
       elements = elements;
-      touched = touched;
+      hasbutton = hasbutton;
       buttons = buttons;
-      moved = moved;
+      hasaxis = hasaxis;
       axes = axes;
       flags = d .flags;
       queue = queue;
@@ -89,7 +89,7 @@ hubFrom d s touched moved elements buttons axes queue =
 
 abbrev pub hubOf : Head → Listed → Columns → Hub
 hubOf d s t =
-    hubFrom d s (t .touched) (t .moved) (elementsOf (t .values) (t .marks)) (buttonsOf (t .values) (t .times) (t .marks))
+    hubFrom d s (t .hasbutton) (t .hasaxis) (elementsOf (t .values) (t .marks)) (buttonsOf (t .values) (t .times) (t .marks))
     (axesOf (t .values) (t .times)) (slotsOf (t .values) (t .times) (t .queuebytes) (t .queuecodes))
 
 -- ---- what a call leaves: the hub, with its answer; and for a pump the out buffer

@@ -17,8 +17,8 @@ listedIn h = record { codes = h .codes; kinds = h .kinds; names = h .names; rena
 abbrev columnsIn : Hub → Columns
 columnsIn h =
     record {
-      touched = h .touched;
-      moved = h .moved;
+      hasbutton = h .hasbutton;
+      hasaxis = h .hasaxis;
       values = packedValues (h .buttons) (h .axes) (h .elements) (h .queue);
       times = packedTimes (h .buttons) (h .axes) (h .queue);
       marks = packedMarks (h .buttons) (h .elements);

@@ -1,4 +1,4 @@
--- What a sheet that is not refused has: its size, at most 48 elements, and elements that fit. By the order of the refusals. Assumes nothing.
+-- What a sheet that is not refused has: its size, at most 48 elements, and elements that fit. By the order of the refusals.
 use Prim.Native.Nat.{ℕ, zero, suc, _+_, _-_, _*_, _<_, _≤_}
 use mathlib.Core.Bool.{Bool, true, false, cond, not, _&&_, _||_}
 use mathlib.Core.List.{List}

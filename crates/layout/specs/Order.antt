@@ -1,5 +1,5 @@
 -- The codes of a good sheet's places never fall, so that on a registered pad the halving search is the plain scan. The code laid last is at most each
--- that is still to be laid. Assumes nothing.
+-- that is still to be laid.
 use Prim.Native.Nat.{ℕ, zero, suc, _+_, _-_, _<_, _≤_}
 use mathlib.Core.Bool.{Bool, true, false, cond, _&&_, _||_}
 use mathlib.Core.List.{List, [], _∷_, map}

@@ -1,4 +1,4 @@
--- Laws of the names after a rename, one for each turn of the loop. Past the column's end nothing is set. Assumes nothing.
+-- Laws of the names after a rename, one for each turn of the loop. Past the column's end nothing is set.
 use Prim.Native.Nat.{ℕ, zero, suc, _+_, _-_, _<_, _≤_}
 use mathlib.Core.Bool.{cond, not}
 use mathlib.Core.List.{List}

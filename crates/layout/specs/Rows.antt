@@ -1,4 +1,4 @@
--- Laws of laying a sheet out, one for each turn of the loop: what is laid and what is left to lay give the whole, place by place. Assumes nothing.
+-- Laws of laying a sheet out, one for each turn of the loop: what is laid and what is left to lay give the whole, place by place.
 use Prim.Native.Nat.{ℕ, zero, suc, _+_, _-_, _<_, _≤_}
 use mathlib.Core.Bool.{Bool, true, false, _&&_, _||_}
 use mathlib.Core.List.{List, _∷_, _++_, append-nil}

@@ -1,5 +1,5 @@
 -- The digits that `io` writes are those of the definitions: the fewest that hold a number are as many as `placesOf` counts, and eight hold 32 bits.
--- The idea: one digit fewer holds the tenth part. Assumes nothing.
+-- The idea: one digit fewer holds the tenth part.
 use mathlib.Core.Path.{_≡_, refl, sym, ap, _∙_}
 use mathlib.Core.Bool.{Bool, true, false, cond}
 use mathlib.Core.List.{List, [], _∷_, _++_}

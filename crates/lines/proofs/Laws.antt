@@ -1,5 +1,5 @@
 -- What appending does to a buffer: it keeps its length, and a text appended behind another is the two laid as one. The idea: a laid text splits the
--- buffer where it ends, and the second text is laid over what was left there. Assumes nothing.
+-- buffer where it ends, and the second text is laid over what was left there.
 use mathlib.Core.Path.{_≡_, refl, sym, ap, _∙_}
 use mathlib.Core.Bool.{Bool, true, false, cond, not}
 use mathlib.Core.List.{List, [], _∷_, _++_, append-assoc}

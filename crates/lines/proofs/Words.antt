@@ -1,4 +1,4 @@
--- How long the words and the lines are at most, and the lines of one event more. Assumes nothing.
+-- How long the words and the lines are at most, and the lines of one event more.
 use mathlib.Core.Path.{_≡_, ap}
 use mathlib.Core.Bool.{Bool, true, false, cond}
 use mathlib.Core.List.{List, _++_}

@@ -1,4 +1,4 @@
--- What it is to append a text to a lent buffer at a place. Definitions only. Assumes nothing.
+-- What it is to append a text to a lent buffer at a place. Definitions only.
 use Prim.Native.Nat.{ℕ, _+_, _≤_}
 use mathlib.Core.Path.{_≡_}
 use mathlib.Core.Bool.{Bool, cond}

@@ -1,4 +1,4 @@
--- The letters of the printed words, as ASCII has them. Definitions only. Assumes nothing.
+-- The letters of the printed words, as ASCII has them. Definitions only.
 use Prim.Native.Nat.{ℕ}
 
 abbrev pub A : ℕ

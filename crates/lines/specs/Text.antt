@@ -1,4 +1,4 @@
--- What padlog prints, as bytes: numbers, words and lines. Definitions only. Assumes nothing.
+-- What padlog prints, as bytes: numbers, words and lines. Definitions only.
 use Prim.Native.Nat.{ℕ, zero, suc, _+_, _*_, _/_, min}
 use mathlib.Core.Bool.{cond}
 use mathlib.Core.List.{List, [], _∷_, _++_}

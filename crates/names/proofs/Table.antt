@@ -1,4 +1,4 @@
--- A rule of a table, proved at each place below its length by one test that the checker computes. Assumes nothing.
+-- A rule of a table, proved at each place below its length by one test that the checker computes.
 use Prim.Native.Nat.{ℕ, zero, suc, _<_}
 use mathlib.Core.Bool.{Bool, true, false, _&&_}
 use mathlib.Core.Logic.{inl, inr}

@@ -1,5 +1,5 @@
 -- Where a scaled value lies. Of kept values: where low is finite and the range, with the odd rule, is finite and not 0, an axis lies in -1..1 and a trigger in 0..1,
--- whatever the raw value. And the values that a min below a max inside 01's limits give are such. So no NaN and no infinity comes out of scaling. Assumes nothing.
+-- whatever the raw value. And the values that a min below a max inside 01's limits give are such. So no NaN and no infinity comes out of scaling.
 use mathlib.Core.Path.{_≡_, refl, ap, _∙_}
 use mathlib.Core.Bool.{Bool, true, false, cond, _&&_, false≢true}
 use Prim.Native.Nat.{ℕ, zero, suc, _+_, _-_, _*_, _≤_, _<_}

@@ -1,4 +1,4 @@
--- The numbers that 01's arithmetic names. Definitions only. Assumes nothing.
+-- The numbers that 01's arithmetic names. Definitions only.
 -- A binary32 constant is given by its bits, which is how the checker writes a literal of the code.
 use mathlib.Core.Bool.{Bool, _||_}
 use Prim.Native.Nat.{ℕ}

@@ -1,4 +1,4 @@
--- A closed example beside each rule, computed by the checker. Assumes nothing.
+-- A closed example beside each rule, computed by the checker.
 use mathlib.Core.Path.{_≡_, refl}
 use mathlib.Core.Bool.{true, false}
 use Prim.Native.Nat.{ℕ}

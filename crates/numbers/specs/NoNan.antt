@@ -1,4 +1,4 @@
--- Where an operation cannot give a NaN: with a finite operand, and in a product or a quotient with one that is not 0. Assumes nothing.
+-- Where an operation cannot give a NaN: with a finite operand, and in a product or a quotient with one that is not 0.
 use mathlib.Core.Path.{_≡_, refl}
 use mathlib.Core.Bool.{Bool, true, false, not, _&&_, cond, Bool·beq}
 use Prim.Native.Nat.{ℕ, zero, suc, _+_, _-_, _*_, _^_}

@@ -1,5 +1,4 @@
 -- The order of binary32 and what `clampOf` makes of it: of two values that are no NaN one is at or below the other, and a value that is held lies between its ends.
--- Assumes nothing.
 use mathlib.Core.Path.{_≡_, refl, sym}
 use mathlib.Core.Logic.{_⊎_, inl, inr}
 use mathlib.Core.Bool.{Bool, true, false, _&&_, _||_, cond, or-true, false≢true}

@@ -1,6 +1,5 @@
 -- The square root of a binary32, rounded once to the nearest value, over whole numbers alone; and the magnitude of a stick.
 -- Definitions only: that `sqrtOf x` is the value of binary32 nearest to the root of x is the theorem `nearest-root` of the crate `binary32`.
--- Assumes nothing.
 use mathlib.Core.Bool.{false, cond}
 use Prim.Native.Nat.{ℕ, zero, suc, _+_, _-_, _*_, _/_, _^_}
 use lib.IntN.{ℤ}

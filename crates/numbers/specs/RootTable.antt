@@ -1,4 +1,4 @@
--- The ends and corners of the square root, as bits, found again by computing `sqrtOf`. One table, one theorem. Assumes nothing.
+-- The ends and corners of the square root, as bits, found again by computing `sqrtOf`. One table, one theorem.
 use mathlib.Core.Path.{_≡_, refl}
 use mathlib.Core.Bool.{Bool, true, _&&_}
 use mathlib.Core.List.{List, [], _∷_}

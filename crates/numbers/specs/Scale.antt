@@ -1,4 +1,4 @@
--- 01's "Scaling" and "Deadzone threshold": 000's `axis_value`, `btn_value` and `Gamepad::deadzone`. Definitions only. Assumes nothing.
+-- 01's "Scaling" and "Deadzone threshold": 000's `axis_value`, `btn_value` and `Gamepad::deadzone`. Definitions only.
 -- An axis element is kept as three values that its min and max give once: `lowOf`, `rangeOf`, `oddOf`. The scaled value of a raw one reads those
 -- (`axisScaledOf`, `buttonScaledOf`); `axisValueOf` and `buttonValueOf` say the same of min and max, in 01's words.
 use mathlib.Core.Bool.{Bool, false, cond, _&&_}

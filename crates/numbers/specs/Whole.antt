@@ -1,5 +1,5 @@
 -- 01's "so every cast and difference is exact": the difference, and the sum with 1, of two whole numbers that binary32 holds is the cast of the integers' own.
--- The idea: a value that is a whole number adds as that number over 1, whatever way its fraction is written. Assumes nothing.
+-- The idea: a value that is a whole number adds as that number over 1, whatever way its fraction is written.
 use mathlib.Core.Path.{_≡_, refl, sym, ap, _∙_}
 use mathlib.Core.Bool.{Bool, true, false, not, _&&_, cond}
 use Prim.Native.Nat.{ℕ, zero, suc, _+_, _-_, _*_, _≤_, _<_, _^_}

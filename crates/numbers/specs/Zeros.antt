@@ -1,4 +1,4 @@
--- What becomes of a zero: reversing Y keeps it as it is, jitter never drops it, and a stick inside its deadzone gives +0.0 twice. Assumes nothing.
+-- What becomes of a zero: reversing Y keeps it as it is, jitter never drops it, and a stick inside its deadzone gives +0.0 twice.
 use mathlib.Core.Path.{_≡_, refl, ap}
 use mathlib.Core.Bool.{Bool, true, false}
 use lib.Ieee.{Float, eq, ne}

@@ -1,4 +1,4 @@
--- A column read or marked at a place that it has not: the read gives the default, and the mark changes nothing. Assumes nothing.
+-- A column read or marked at a place that it has not: the read gives the default, and the mark changes nothing.
 use Prim.Native.Nat.{ℕ, zero, suc, _≤_, _<_, _+_, _-_}
 use mathlib.Core.Bool.{Bool, false}
 use mathlib.Core.List.{List, [], _∷_}

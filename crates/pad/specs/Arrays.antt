@@ -1,4 +1,4 @@
--- What is known of the length of an array of structs: the checker keeps it of the list of their values in memory. Assumes nothing.
+-- What is known of the length of an array of structs: the checker keeps it of the list of their values in memory.
 use Prim.Native.Nat.{ℕ}
 use mathlib.Core.Path.{_≡_, sym, _∙_}
 use mathlib.Core.List.{List, map}

@@ -1,4 +1,4 @@
--- What the lookups of `pad` answer: the place that the law book defines, and its bound, which callers index by. Definitions only. Assumes nothing.
+-- What the lookups of `pad` answer: the place that the law book defines, and its bound, which callers index by. Definitions only.
 use Prim.Native.Nat.{ℕ, _+_, _≤_}
 use mathlib.Core.List.{List}
 use mathlib.Core.Path.{_≡_}

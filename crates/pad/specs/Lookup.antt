@@ -1,5 +1,5 @@
 -- What a place that was found is, whatever the columns hold: it is the pad's and has the code, or the name, so that the places of different codes differ.
--- The lookup of a code checks what it found, and its answer shows that the check passed; the scan for a name stops at it. Assumes nothing.
+-- The lookup of a code checks what it found, and its answer shows that the check passed; the scan for a name stops at it.
 use Prim.Native.Nat.{ℕ, zero, suc, _+_, _*_, _/_, _<_, _≤_}
 use mathlib.Core.Bool.{Bool, true, false, cond, _&&_}
 use mathlib.Core.List.{List}

@@ -1,5 +1,5 @@
 -- Where a pad's codes do not fall, the halving search answers what the plain scan answers: the first place that has the code, or nowhere. The first such
--- place stays between the two ends of what is left to search. Assumes nothing.
+-- place stays between the two ends of what is left to search.
 use Prim.Native.Nat.{ℕ, zero, suc, _+_, _-_, _*_, _/_, _^_, _<_, _≤_}
 use mathlib.Core.Bool.{Bool, true, false, cond}
 use mathlib.Core.List.{List}

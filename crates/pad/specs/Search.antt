@@ -1,5 +1,5 @@
 -- Laws of the two searches, one for each turn of their loops: how the halving search goes on, below and above the middle, and how the scan does; and
--- what the check behind the halving search answers. By the tests that the definitions make. Assumes nothing.
+-- what the check behind the halving search answers. By the tests that the definitions make.
 use Prim.Native.Nat.{ℕ, zero, suc, _+_, _-_, _*_, _/_, _^_, _<_, _≤_}
 use mathlib.Core.List.{List}
 use mathlib.Core.Path.{_≡_, refl, _∙_, ap}

@@ -1,5 +1,4 @@
 -- A turn of padlog's loop: what is printed already and what is left to print make the whole text, before the turn and after it, or at the end.
--- Assumes nothing.
 use Prim.Native.Nat.{ℕ, zero, suc, _+_, _*_, _/_, _≤_, min}
 use mathlib.Core.Path.{_≡_, refl, sym, ap, subst, _∙_}
 use mathlib.Core.Bool.{Bool, true, false, cond}

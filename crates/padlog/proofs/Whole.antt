@@ -1,4 +1,4 @@
--- padlog's whole text, by what registration answers. Assumes nothing.
+-- padlog's whole text, by what registration answers.
 use Prim.Native.Nat.{ℕ, _+_, _≤_}
 use mathlib.Core.Path.{_≡_, refl, sym, ap, _∙_}
 use mathlib.Core.Bool.{true, false}

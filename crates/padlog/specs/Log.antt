@@ -1,4 +1,4 @@
--- What padlog prints for its input: one sheet, then one batch. Definitions only. Assumes nothing.
+-- What padlog prints for its input: one sheet, then one batch. Definitions only.
 use Prim.Native.Nat.{ℕ, zero, suc, _+_, _≤_, min}
 use mathlib.Core.Path.{_≡_}
 use mathlib.Core.Bool.{Bool, true, false, cond}

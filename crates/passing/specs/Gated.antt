@@ -7,7 +7,7 @@ use lib.ListN.{length, getD, set, take, drop}
 use native.Mathlib.Omega.{arith}
 use Rattle.rules.specs.declared.Hub.{Hub}
 use Rattle.rules.specs.declared.Event.{Event}
-use Rattle.rules.specs.declared.Looked.{Looked}
+use Rattle.rules.specs.declared.NextRecord.{NextRecord}
 use Rattle.rules.specs.declared.Dispatched.{Dispatched}
 use Rattle.rules.specs.declared.Filtered.{Filtered}
 use Rattle.rules.specs.declared.View.{View}
@@ -17,9 +17,9 @@ use Rattle.rules.specs.Events.{nameOf}
 use Rattle.rules.specs.Filters.{filteredOf}
 use Rattle.rules.specs.Hub.{viewAt, viewOf, hatPlaceOf, partnerPlaceOf, convertsIn, pressedAt, valueAt, pastSlot, pastElement, pastButton, queueAfter, waitingAfter}
 use Rattle.rules.specs.Calls.{insertedAt}
-use Rattle.rules.specs.Step.{takenOf, markedOf, headAfter, pushesOf, flagsSet, pushedOf, filteredIn, turnedOf}
+use Rattle.rules.specs.Step.{takenOf, markedOf, headAfter, pushesOf, flagsSet, pushedOf, filteredIn, filteredHub}
 use Rattle.gather.specs.declared.Found.{Found}
-use Rattle.gather.specs.Sight.{foundAt}
+use Rattle.gather.specs.EventPlaces.{foundAt}
 use Rattle.filters.specs.declared.Sent.{Sent}
 use Rattle.filters.specs.Behind.{behindOf, filtered-four}
 use Rattle.turn.specs.Turn.{takenBy, part, list-pushed}
@@ -81,7 +81,7 @@ push-more h es x end less long eu = push-one h es x end less long eu refl refl r
 
 -- a hub with other marks, and another front and length of the queue
 abbrev markedHub : Hub → List Bool → List Bool → List Bool → List Bool → List Bool → ℕ → ℕ → Hub
-markedHub h connected renamed touched moved flags head waiting =
+markedHub h connected renamed hasbutton hasaxis flags head waiting =
     record {
       pressed = h .pressed;
       released = h .released;
@@ -95,16 +95,16 @@ markedHub h connected renamed touched moved flags head waiting =
       hats = h .hats;
       converts = h .converts;
       renamed = renamed;
-      rehats = h .rehats;
-      reconverts = h .reconverts;
+      newhats = h .newhats;
+      newconverts = h .newconverts;
       codes = h .codes;
       kinds = h .kinds;
       names = h .names;
       renames = h .renames;
       elements = h .elements;
-      touched = touched;
+      hasbutton = hasbutton;
       buttons = h .buttons;
-      moved = moved;
+      hasaxis = hasaxis;
       axes = h .axes;
       flags = flags;
       queue = h .queue;
@@ -114,12 +114,12 @@ markedHub h connected renamed touched moved flags head waiting =
 
 -- the view that `pass` has of a hub, with other marks
 abbrev pub viewSeen : Hub → List Bool → List Bool → List Bool → List Bool → Event → View
-viewSeen h renamed touched moved flags e =
+viewSeen h renamed hasbutton hasaxis flags e =
     viewOf
-    (seenHub (h .codes) (h .kinds) (h .names) (h .renames) renamed (h .converts) (h .reconverts) touched moved (h .elements) (h .buttons) (h .axes) flags)
+    (seenHub (h .codes) (h .kinds) (h .names) (h .renames) renamed (h .converts) (h .newconverts) hasbutton hasaxis (h .elements) (h .buttons) (h .axes) flags)
     e
 
-seen-same : (m : Hub) (e : Event) → filteredOf (m .filters) (viewSeen m (m .renamed) (m .touched) (m .moved) (m .flags) e) e ≡ filteredIn m e
+seen-same : (m : Hub) (e : Event) → filteredOf (m .filters) (viewSeen m (m .renamed) (m .hasbutton) (m .hasaxis) (m .flags) e) e ≡ filteredIn m e
 unfolding filteredIn viewOf viewAt hatPlace partnerPlace convertsNow pressedAt valueAt
 seen-same m e = refl
 
@@ -128,33 +128,33 @@ turned-by :
     f ≡ filteredIn m (d .event) →
     both ≡ flagsSet (m .flags) (d .event .pad) (nameOf (d .event)) (f .flags) →
     es ≡ pushesOf d (f .gives) →
-    u ≡ queuedHub (markedHub m (m .connected) (m .renamed) (m .touched) (m .moved) both (m .head) (m .waiting)) es →
-    u ≡ turnedOf m d
-unfolding turnedOf pushedOf queuedHub
+    u ≡ queuedHub (markedHub m (m .connected) (m .renamed) (m .hasbutton) (m .hasaxis) both (m .head) (m .waiting)) es →
+    u ≡ filteredHub m d
+unfolding filteredHub pushedOf queuedHub
 turned-by m d ef eb es eu = rw (eu, es, eb, ef)
 
 -- the whole turn, from what each call of it answers: `flagged` are the flags once a record's marks are made, `both` once the event has passed
 pub turn-gated :
-    (h : Hub) (l : Looked) {head waiting : ℕ} {connected renamed touched moved flagged both : List Bool} {found : Found} {d : Dispatched} {r : Passed}
+    (h : Hub) (l : NextRecord) {head waiting : ℕ} {connected renamed hasbutton hasaxis flagged both : List Bool} {found : Found} {d : Dispatched} {r : Passed}
     {u : Hub} {es : List Event} →
-    found ≡ foundAt (h .kinds) (h .names) (h .renames) (h .renamed) (h .touched) (l .raw .pad) (placeOf (h .codes) (l .raw .pad) (l .raw .code)) →
+    found ≡ foundAt (h .kinds) (h .names) (h .renames) (h .renamed) (h .hasbutton) (l .raw .pad) (placeOf (h .codes) (l .raw .pad) (l .raw .code)) →
     d
     ≡ takenBy (h .waiting) (getD (h .queue) (h .head % queueRoom) pastSlot) (l .raw) found (getD (h .elements) (found .place) pastElement)
     (getD (h .buttons) (found .place) pastButton) (h .pressed) (h .released) (h .reversed) →
-    MarkedIs (h .connected) (h .renamed) (h .touched) (h .moved) (h .flags) (l .raw .pad) (l .raw .kind) connected renamed touched moved flagged →
+    MarkedIs (h .connected) (h .renamed) (h .hasbutton) (h .hasaxis) (h .flags) (l .raw .pad) (l .raw .kind) connected renamed hasbutton hasaxis flagged →
     head ≡ headAfter (h .head) (h .waiting) →
     waiting ≡ h .waiting - 1 →
-    PassedIs (h .filters) (viewSeen h renamed touched moved flagged (d .event)) (d .event) flagged r both →
-    es ≡ pushesOf d (filteredOf (h .filters) (viewSeen h renamed touched moved flagged (d .event)) (d .event) .gives) →
-    u ≡ queuedHub (markedHub h connected renamed touched moved both head waiting) es →
+    PassedIs (h .filters) (viewSeen h renamed hasbutton hasaxis flagged (d .event)) (d .event) flagged r both →
+    es ≡ pushesOf d (filteredOf (h .filters) (viewSeen h renamed hasbutton hasaxis flagged (d .event)) (d .event) .gives) →
+    u ≡ queuedHub (markedHub h connected renamed hasbutton hasaxis both head waiting) es →
     Turned h l u (r .sent .event)
-turn-gated h l {head} {waiting} {connected = connected} {renamed} {touched} {moved} {flagged} {d = d} efound ed k eh ew p es eu =
+turn-gated h l {head} {waiting} {connected = connected} {renamed} {hasbutton} {hasaxis} {flagged} {d = d} efound ed k eh ew p es eu =
     turned h l
-    (marked-is h (l .raw) refl refl refl (k .connected-is) (k .renamed-is) (k .touched-is) (k .moved-is) (k .flags-is) eh ew)
+    (marked-is h (l .raw) refl refl refl (k .connected-is) (k .renamed-is) (k .hasbutton-is) (k .hasaxis-is) (k .flags-is) eh ew)
     (taken-is h l efound refl ed)
     (seen-same marked (d .event))
     (p .event)
     (turned-by marked d (seen-same marked (d .event)) (p .flags-are) es eu)
   where
     marked : Hub
-    marked = markedHub h connected renamed touched moved flagged head waiting
+    marked = markedHub h connected renamed hasbutton hasaxis flagged head waiting

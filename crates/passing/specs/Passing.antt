@@ -27,9 +27,9 @@ use Rattle.rules.specs.Forms.{kindConnected, kindDisconnected}
 use Rattle.rules.specs.Events.{nameOf, codeOf}
 use Rattle.rules.specs.Filters.{filteredOf, unfiltered, dpadOf, jitteredOf, deadzonedOf, joined, dpadType, jitterType, deadzoneType}
 use Rattle.rules.specs.Hub.{viewAt, viewOf, flagPlace, pastElement, pastButton, pastAxis}
-use Rattle.rules.specs.Step.{connectedAfter, renamedAfter, joinRun, flagsSet}
-use Rattle.gather.specs.declared.Sight.{Sight}
-use Rattle.gather.specs.Sight.{SightIs, sightAt, viewBy, view-is}
+use Rattle.rules.specs.Step.{connectedAfter, renamedAfter, marksCleared, flagsSet}
+use Rattle.gather.specs.declared.EventPlaces.{EventPlaces}
+use Rattle.gather.specs.EventPlaces.{EventPlacesAre, eventPlacesAt, viewBy, view-is}
 use Rattle.filters.specs.declared.Sent.{Sent}
 use Rattle.filters.specs.Behind.{SentIs, sentOf, behindOf, behind-is, sent-event, sent-flags, sent-count}
 use Rattle.passing.specs.declared.Passed.{Passed}
@@ -38,23 +38,23 @@ use Rattle.passing.specs.declared.Passed.{Passed}
 
 -- what a taken record leaves of the marks
 pub record MarkedIs
-    (connected renamed touched moved flags : List Bool) (p kind : ℕ) (connected' renamed' touched' moved' flags' : List Bool) :
+    (connected renamed hasbutton hasaxis flags : List Bool) (p kind : ℕ) (connected' renamed' hasbutton' hasaxis' flags' : List Bool) :
     Type 0 where
   pub connected-is : connected' ≡ connectedAfter connected p kind
   pub renamed-is : renamed' ≡ renamedAfter renamed p kind
-  pub touched-is : touched' ≡ clearedOf touched (placesPerPad * p) (joinRun kind placesPerPad)
-  pub moved-is : moved' ≡ clearedOf moved (placesPerPad * p) (joinRun kind placesPerPad)
-  pub flags-is : flags' ≡ clearedOf flags (flagsPerPad * p) (joinRun kind flagsPerPad)
+  pub hasbutton-is : hasbutton' ≡ clearedOf hasbutton (placesPerPad * p) (marksCleared kind placesPerPad)
+  pub hasaxis-is : hasaxis' ≡ clearedOf hasaxis (placesPerPad * p) (marksCleared kind placesPerPad)
+  pub flags-is : flags' ≡ clearedOf flags (flagsPerPad * p) (marksCleared kind flagsPerPad)
 
 pub no-marks :
-    (connected renamed touched moved flags : List Bool) (p kind : ℕ) →
+    (connected renamed hasbutton hasaxis flags : List Bool) (p kind : ℕ) →
     kind < kindConnected →
-    MarkedIs connected renamed touched moved flags p kind connected renamed touched moved flags
-unfolding connectedAfter renamedAfter joinRun clearedOf
-no-marks connected renamed touched moved flags p kind low =
+    MarkedIs connected renamed hasbutton hasaxis flags p kind connected renamed hasbutton hasaxis flags
+unfolding connectedAfter renamedAfter marksCleared clearedOf
+no-marks connected renamed hasbutton hasaxis flags p kind low =
     let stays : eqb kind kindConnected ≡ false = ne-eqb kind kindConnected (λ (e : kind ≡ kindConnected). omega arith) in
     let left : eqb kind kindDisconnected ≡ false = ne-eqb kind kindDisconnected (λ (e : kind ≡ kindDisconnected). omega arith) in
-    record { connected-is = rw (stays, left); renamed-is = rw stays; touched-is = rw stays; moved-is = rw stays; flags-is = rw stays }
+    record { connected-is = rw (stays, left); renamed-is = rw stays; hasbutton-is = rw stays; hasaxis-is = rw stays; flags-is = rw stays }
 
 -- ---- the filters
 
@@ -75,7 +75,7 @@ concernsOf e dead = concernsType (e .event) dead
 -- what a hub's view is made of: a hub that has these, and blanks for what no view reads
 abbrev pub seenHub :
     List ℕ → List ℕ → List ℕ → List ℕ → List Bool → List Bool → List Bool → List Bool → List Bool → List Element → List ButtonData → List AxisData → List Bool → Hub
-seenHub codes kinds names renames renamed converts reconverts touched moved elements buttons axes flags =
+seenHub codes kinds names renames renamed converts newconverts hasbutton hasaxis elements buttons axes flags =
     record {
       pressed = zero32;
       released = zero32;
@@ -89,16 +89,16 @@ seenHub codes kinds names renames renamed converts reconverts touched moved elem
       hats = [];
       converts = converts;
       renamed = renamed;
-      rehats = [];
-      reconverts = reconverts;
+      newhats = [];
+      newconverts = newconverts;
       codes = codes;
       kinds = kinds;
       names = names;
       renames = renames;
       elements = elements;
-      touched = touched;
+      hasbutton = hasbutton;
       buttons = buttons;
-      moved = moved;
+      hasaxis = hasaxis;
       axes = axes;
       flags = flags;
       queue = [];
@@ -190,18 +190,18 @@ view-named m e {name} {code} en ec =
     ∙ ap (λ (c : ℕ). viewAt m (e .pad) (nameOf e) (placeOf (m .codes) (e .pad) c)) ec
 
 -- what is seen of a hub for an event
-abbrev SeenIn : Hub → Event → ℕ → ℕ → Sight → Type 0
+abbrev SeenIn : Hub → Event → ℕ → ℕ → EventPlaces → Type 0
 SeenIn m e name code s =
-    SightIs (m .codes) (m .kinds) (m .names) (m .renames) (m .renamed) (m .converts) (m .reconverts) (m .touched) (m .moved) (m .flags) (e .pad) name code s
+    EventPlacesAre (m .codes) (m .kinds) (m .names) (m .renames) (m .renamed) (m .converts) (m .newconverts) (m .hasbutton) (m .hasaxis) (m .flags) (e .pad) name code s
 
 flags-at :
-    (m : Hub) (e : Event) (f : Flags) {name code : ℕ} {s : Sight} {flagged both : List Bool} →
+    (m : Hub) (e : Event) (f : Flags) {name code : ℕ} {s : EventPlaces} {flagged both : List Bool} →
     name ≡ nameOf e →
     SeenIn m e name code s →
     flagged ≡ set (m .flags) (s .flag) (f .own) →
     both ≡ set flagged (s .other) (f .partner) →
     both ≡ flagsSet (m .flags) (e .pad) (nameOf e) f
-unfolding flagsSet sightAt
+unfolding flagsSet eventPlacesAt
 flags-at m e f en seen e1 e2 = rw (e2, e1, seen .is, en)
 
 sent-passes :
@@ -220,7 +220,7 @@ sent-passes on v e flags {f} sent ef =
     }
 
 pub passes-seen :
-    (on : Bool) (m : Hub) (e : Event) {name code : ℕ} {s : Sight} {v : View} {f : Sent} {flagged both : List Bool} →
+    (on : Bool) (m : Hub) (e : Event) {name code : ℕ} {s : EventPlaces} {v : View} {f : Sent} {flagged both : List Bool} →
     name ≡ nameOf e →
     code ≡ codeOf e →
     SeenIn m e name code s →

@@ -70,7 +70,7 @@ pub fn take(
     let k = found.place;
     let element = columns::element_at(values, marks, k);
     let b = columns::button_at(values, times, marks, k);
-    let down = state::read_pressed(found.touched, b);
+    let down = state::read_pressed(found.hasbutton, b);
     dispatch::dispatch(raw, found.name, element, down, pressed, released, reversed)
 }
 
@@ -80,25 +80,25 @@ pub fn take(
 pub fn mark_joins(
     connected: &mut [bool; 4],
     renamed: &mut [bool; 4],
-    touched: &mut [bool; 208],
-    moved: &mut [bool; 208],
+    hasbutton: &mut [bool; 208],
+    hasaxis: &mut [bool; 208],
     flags: &mut [bool; 24],
     p: u8,
     kind: u8,
 )
-    ensures { λ _. ⌜ MarkedIs (now (connected .entry)) (now (renamed .entry)) (now (touched .entry)) (now (moved .entry)) (now (flags .entry)) p kind
-        (now (connected .exit)) (now (renamed .exit)) (now (touched .exit)) (now (moved .exit)) (now (flags .exit)) ⌝ }
+    ensures { λ _. ⌜ MarkedIs (now (connected .entry)) (now (renamed .entry)) (now (hasbutton .entry)) (now (hasaxis .entry)) (now (flags .entry)) p kind
+        (now (connected .exit)) (now (renamed .exit)) (now (hasbutton .exit)) (now (hasaxis .exit)) (now (flags .exit)) ⌝ }
 {
     if kind < KIND_CONNECTED {
         return;
     }
     let q = choices::wide(p);
-    let marks = turn::join_run(kind, PLACES_PER_PAD);
-    let runs = turn::join_run(kind, FLAGS_PER_PAD);
+    let marks = turn::marks_cleared(kind, PLACES_PER_PAD);
+    let runs = turn::marks_cleared(kind, FLAGS_PER_PAD);
     turn::connect(connected, p, kind);
     turn::forget(renamed, p, kind);
-    pad::clear(touched, PLACES_PER_PAD * q, marks);
-    pad::clear(moved, PLACES_PER_PAD * q, marks);
+    pad::clear(hasbutton, PLACES_PER_PAD * q, marks);
+    pad::clear(hasaxis, PLACES_PER_PAD * q, marks);
     pad::clear_flags(flags, FLAGS_PER_PAD * q, runs);
 }
 
@@ -161,9 +161,9 @@ pub fn pass<'a>(
     renames: &'a [u8; 208],
     renamed: &'a [bool; 4],
     converts: &'a [bool; 4],
-    reconverts: &'a [bool; 4],
-    touched: &'a [bool; 208],
-    moved: &'a [bool; 208],
+    newconverts: &'a [bool; 4],
+    hasbutton: &'a [bool; 208],
+    hasaxis: &'a [bool; 208],
     values: &'a Values,
     times: &'a Times,
     marks: &'a Marks,
@@ -176,21 +176,21 @@ pub fn pass<'a>(
 ) -> Passed
     requires { ⌜ Placed (now codes) lastpad lastcode last ⌝ }
     ensures { λ r. ⌜ PassedIs on (viewOf (seenHub (now (codes .entry)) (now (kinds .entry)) (now (names .entry)) (now (renames .entry))
-        (now (renamed .entry)) (now (converts .entry)) (now (reconverts .entry)) (now (touched .entry)) (now (moved .entry))
+        (now (renamed .entry)) (now (converts .entry)) (now (newconverts .entry)) (now (hasbutton .entry)) (now (hasaxis .entry))
         (elementsOf (now (values .entry)) (now (marks .entry))) (buttonsOf (now (values .entry)) (now (times .entry)) (now (marks .entry)))
         (axesOf (now (values .entry)) (now (times .entry))) (now (flags .entry))) e) e (now (flags .entry)) r (now (flags .exit)) ⌝ }
 {
     if concerns(codes, kinds, e) {
-        let s = gather::sighted_again(
+        let s = gather::event_places(
             codes,
             kinds,
             names,
             renames,
             renamed,
             converts,
-            reconverts,
-            touched,
-            moved,
+            newconverts,
+            hasbutton,
+            hasaxis,
             flags,
             e.pad,
             events::name_of(e),

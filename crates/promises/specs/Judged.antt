@@ -20,7 +20,7 @@ use Rattle.rules.specs.declared.Answer.the-variants as answer
 use Rattle.rules.specs.Forms.{eventSize}
 use Rattle.rules.specs.Refusals.{formRefusal, insertRefusal}
 use Rattle.rules.specs.Events.{eventBytes}
-use Rattle.rules.specs.Step.{lookedOf, stepRefusal}
+use Rattle.rules.specs.Step.{nextRecordOf, stepRefusal}
 use Rattle.rules.specs.Pump.{Progress, Verdict, going, stopping, refusing, drained, full, paused, goOn, stopOf, verdictBy, verdictOf}
 use Rattle.rules.specs.Pump.{stepped, endedBy, runOf, startOf, pumpBy}
 use Rattle.rules.specs.Repeat.{repeatBy}
@@ -158,7 +158,7 @@ verdict-said : (left : ℕ) (s : List ℕ) (p : Progress) → pumpSays (endedBy 
 unfolding verdictOf stopOf
 verdict-said left s p =
     reasons-said (eqb (p .hub .waiting) 0 && eqb (length s - p .at) 0) (ltb (length (p .out) - eventSize * p .events) eventSize) (eqb left 0)
-    (stepRefusal (p .hub) (lookedOf (p .hub .waiting) s (p .at))) p
+    (stepRefusal (p .hub) (nextRecordOf (p .hub .waiting) s (p .at))) p
 
 run-said : (left : ℕ) (v : Verdict) (s : List ℕ) (p : Progress) → pumpSays (endedBy v p .pumped .answer) ≡ endingSays v p
     → pumpSays (runOf left v s p .pumped .answer) ≡ endingSays (endingOf left v s p .verdict) (endingOf left v s p .progress)
@@ -189,7 +189,7 @@ run-stops : (left : ℕ) (v : Verdict) (s : List ℕ) (p : Progress) → verdict
 unfolding endingOf verdictOf stopOf
 run-stops zero v s p is goes =
     spent-stops (eqb (p .hub .waiting) 0 && eqb (length s - p .at) 0) (ltb (length (p .out) - eventSize * p .events) eventSize)
-    (stepRefusal (p .hub) (lookedOf (p .hub .waiting) s (p .at))) (is ∙ goes)
+    (stepRefusal (p .hub) (nextRecordOf (p .hub .waiting) s (p .at))) (is ∙ goes)
 run-stops (suc left) going s p is goes = run-stops left (verdictOf left s (stepped s p)) s (stepped s p) refl goes
 run-stops (suc left) (stopping why) s p is goes = stopping-ends why goes
 run-stops (suc left) (refusing number) s p is goes = refusing-ends number goes

@@ -1,5 +1,5 @@
 -- 01's five wrong machines, each shut out by the pump's promise: none of them answers what `pumpOf` does. Each is any pump with the fault, and 01's padlog
--- example, computed by the checker, is the input on which it differs. Assumes nothing.
+-- example, computed by the checker, is the input on which it differs.
 use Prim.Native.Nat.{ℕ, _<_}
 use mathlib.Core.Path.{_≡_, refl, sym, _∙_, ap}
 use mathlib.Core.Bool.{true, false}

@@ -21,7 +21,7 @@ use Rattle.rules.specs.Forms.{eventSize}
 use Rattle.rules.specs.Refusals.{pumpRefusal}
 use Rattle.rules.specs.Events.{eventBytes}
 use Rattle.rules.specs.Filters.{keptOf}
-use Rattle.rules.specs.Step.{lookedOf, stepEvent}
+use Rattle.rules.specs.Step.{nextRecordOf, stepEvent}
 use Rattle.rules.specs.Pump.{Progress, Run, Verdict, going, stopping, refusing, drained, full, stopOf, verdictOf, outAfter, steppedBy, stepped, endedBy, runOf, startOf, pumpBy, pumpOf}
 use Rattle.promises.specs.Machines.{move, both, bare, desk, room, allowed, placeSaid, eventsSaid, stepsSaid}
 use Rattle.promises.specs.Runs.{endOf, end-is}
@@ -111,7 +111,7 @@ module _ (before : List ℕ) (events steps : ℕ) where
     same-step : (s : List ℕ) (p : Progress) → stepped s (behind p) ≡ behind (stepped s p)
     unfolding stepped steppedBy
     same-step s p =
-        let e = stepEvent (p .hub) (lookedOf (p .hub .waiting) s (p .at)) in
+        let e = stepEvent (p .hub) (nextRecordOf (p .hub .waiting) s (p .at)) in
         let kept = keptOf (p .hub .filters) e in
         same-standing (same-out kept (p .out) (p .events) e) (omega arith) (omega arith)
 

@@ -1,5 +1,5 @@
 -- "The queue holds 64. It never overflows": what a step and an accepted insert do to the waiting events, as a list, and to their weighted sum. "No step
--- that takes from the queue raises that sum, a step on an empty queue leaves at most 4, an accepted insert at most 64." Assumes nothing.
+-- that takes from the queue raises that sum, a step on an empty queue leaves at most 4, an accepted insert at most 64."
 use Prim.Native.Nat.{_+_, _-_, _%_, _<_, _≤_}
 use mathlib.Core.Bool.{Bool, true, false}
 use mathlib.Core.List.{List, [], _∷_, _++_}
@@ -10,10 +10,10 @@ use native.Mathlib.Omega.{arith}
 use borrow.Author.Tests.{lt-ltb, ltb-true, ltb-false}
 use Rattle.rules.specs.declared.Hub.{Hub}
 use Rattle.rules.specs.declared.Event.{Event}
-use Rattle.rules.specs.declared.Looked.{Looked}
+use Rattle.rules.specs.declared.NextRecord.{NextRecord}
 use Rattle.rules.specs.Names.{queueRoom, insertLimit}
 use Rattle.rules.specs.Hub.{frontOf, viewOf, placeIn, nameIn, elementAt, pressedAt}
-use Rattle.rules.specs.Step.{headAfter, markedOf, pushesOf, pushedOf, updatedAt, updatedOf, filteredIn, turnedOf, takenOf, recordGives, stepHub}
+use Rattle.rules.specs.Step.{headAfter, markedOf, pushesOf, pushedOf, updatedAt, updatedOf, filteredIn, filteredHub, takenOf, recordGives, stepHub}
 use Rattle.rules.specs.Calls.{insertedAt}
 use Rattle.promises.specs.Waiting.{waitingList, waiting-length, ring-length, restOf, popped, empty-rest, pushed, queue-length}
 use Rattle.promises.specs.Weight.{weightOf, weigh, weigh-bounds, weigh-append, brought, record-brings, pushes-light, hatWeight}
@@ -32,21 +32,21 @@ sound-waiting h z =
 -- ---- a step
 
 -- the events that a step queues
-unfoldable pub pushesIn : Hub → Looked → List Event
+unfoldable pub pushesIn : Hub → NextRecord → List Event
 unfolding pushesOf filteredIn markedOf takenOf
 pushesIn h l = pushesOf (takenOf h l) (filteredIn (markedOf h (l .raw)) (takenOf h l .event) .gives)
 
-pushes-brought : (h : Hub) (l : Looked) → weigh (pushesIn h l) ≤ brought (takenOf h l)
+pushes-brought : (h : Hub) (l : NextRecord) → weigh (pushesIn h l) ≤ brought (takenOf h l)
 unfolding pushesIn filteredIn
 pushes-brought h l = pushes-light (takenOf h l) (markedOf h (l .raw) .filters) (viewOf (markedOf h (l .raw)) (takenOf h l .event))
 
 -- a step that takes the front brings the front
-front-brought : (h : Hub) (l : Looked) → 0 < h .waiting → brought (takenOf h l) ≡ weightOf (frontOf h)
+front-brought : (h : Hub) (l : NextRecord) → 0 < h .waiting → brought (takenOf h l) ≡ weightOf (frontOf h)
 unfolding takenOf brought
 front-brought h l some = rw (lt-ltb 0 (h .waiting) some) (omega arith)
 
 -- on an empty queue it brings what the record gives
-record-brought : (h : Hub) (l : Looked) → h .waiting ≡ 0 → brought (takenOf h l) ≤ hatWeight
+record-brought : (h : Hub) (l : NextRecord) → h .waiting ≡ 0 → brought (takenOf h l) ≤ hatWeight
 unfolding takenOf recordGives
 record-brought h l none =
     rw none
@@ -54,20 +54,20 @@ record-brought h l none =
     (h .pressed) (h .released) (h .reversed))
 
 -- where there is room, the rest waits on, and what is queued stands behind it in its order
-step-list : (h : Hub) (l : Looked) → length (h .queue) ≡ queueRoom → h .waiting - 1 + length (pushesIn h l) ≤ queueRoom
+step-list : (h : Hub) (l : NextRecord) → length (h .queue) ≡ queueRoom → h .waiting - 1 + length (pushesIn h l) ≤ queueRoom
     → waitingList (stepHub h l) ≡ restOf h ++ pushesIn h l
-unfolding waitingList restOf stepHub updatedOf updatedAt turnedOf pushedOf markedOf pushesIn
+unfolding waitingList restOf stepHub updatedOf updatedAt filteredHub pushedOf markedOf pushesIn
 step-list h l long room = pushed (pushesIn h l) (h .queue) (headAfter (h .head) (h .waiting)) (h .waiting - 1) long room
 
-step-ring : (h : Hub) (l : Looked) → length (stepHub h l .queue) ≡ length (h .queue)
-unfolding stepHub updatedOf updatedAt turnedOf pushedOf markedOf pushesIn
+step-ring : (h : Hub) (l : NextRecord) → length (stepHub h l .queue) ≡ length (h .queue)
+unfolding stepHub updatedOf updatedAt filteredHub pushedOf markedOf pushesIn
 step-ring h l = queue-length (pushesIn h l) (h .queue) (headAfter (h .head) (h .waiting)) (h .waiting - 1)
 
 rest-length : (h : Hub) → length (restOf h) ≡ h .waiting - 1
 unfolding restOf
 rest-length h = ring-length (h .queue) (headAfter (h .head) (h .waiting) % queueRoom) (h .waiting - 1)
 
-module _ (h : Hub) (l : Looked) (z : Sound h) where
+module _ (h : Hub) (l : NextRecord) (z : Sound h) where
   -- what a step takes and what it leaves are what waited
   front-sum : 0 < h .waiting → weigh (waitingList h) ≡ weightOf (frontOf h) + weigh (restOf h)
   front-sum some = rw (popped h some) (unfold weigh in refl)

@@ -1,5 +1,5 @@
 -- "The queue holds 64. It never overflows": for every hub that the public calls lead to, whatever they are given, what waits weighs at most 64, so at
--- most 64 events wait and each that is queued finds room. By induction on the calls. Assumes nothing.
+-- most 64 events wait and each that is queued finds room. By induction on the calls.
 use Prim.Native.Nat.{ℕ, zero, suc, _<_, _≤_}
 use mathlib.Core.Bool.{Bool, true, false, cond}
 use mathlib.Core.List.{List, _++_}
@@ -13,12 +13,12 @@ use Rattle.rules.specs.declared.Hub.{Hub}
 use Rattle.rules.specs.declared.EventForm.{EventForm}
 use Rattle.rules.specs.declared.EventRead.{EventRead}
 use Rattle.rules.specs.declared.EventRead.the-variants as eventRead
-use Rattle.rules.specs.declared.Looked.{Looked}
+use Rattle.rules.specs.declared.NextRecord.{NextRecord}
 use Rattle.rules.specs.Names.{insertLimit}
 use Rattle.rules.specs.Forms.{readEvent}
 use Rattle.rules.specs.Refusals.{thresholdsRefusal, formRefusal, insertRefusal, pumpRefusal, unlessFits}
 use Rattle.rules.specs.Events.{formEvent}
-use Rattle.rules.specs.Step.{updatedAt, updatedOf, lookedOf, stepHub}
+use Rattle.rules.specs.Step.{updatedAt, updatedOf, nextRecordOf, stepHub}
 use Rattle.rules.specs.Pump.{Progress, Verdict, going, stopping, refusing, steppedBy, stepped, verdictOf, runOf, startOf, pumpBy, pumpOf}
 use Rattle.rules.specs.Calls.{freshHub, idleHub, newBy, newOf, registeredAt, registerRefusal, registerBy, registerOf, renamedAt, renameRefusal, renameBy, renameOf, formPlace, updateFormBy, updateBy, updateOf, insertFormBy, insertBy, insertOf, countedAt, incOf, resetOf}
 use Rattle.promises.specs.Waiting.{ringList, waitingList, restOf}
@@ -30,7 +30,7 @@ pub data Reached : Hub → Type 0 where
   new : (pressed released : Float) (reversed filters updates : Bool) → Reached (newOf pressed released reversed filters updates .hub)
   register : {h : Hub} (sheet : List ℕ) → Reached h → Reached (registerOf h sheet .hub)
   rename : {h : Hub} (pad : ℕ) (list : List ℕ) → Reached h → Reached (renameOf h pad list .hub)
-  step : {h : Hub} (l : Looked) → Reached h → Reached (stepHub h l)
+  step : {h : Hub} (l : NextRecord) → Reached h → Reached (stepHub h l)
   update : {h : Hub} (event : List ℕ) → Reached h → Reached (updateOf h event .hub)
   insert : {h : Hub} (event : List ℕ) → Reached h → Reached (insertOf h event .hub)
   inc : {h : Hub} → Reached h → Reached (incOf h)
@@ -105,14 +105,14 @@ reached-sound (inc {h} w) = same-queue h _ refl refl refl (reached-sound w)
 reached-sound (reset {h} w) = same-queue h _ refl refl refl (reached-sound w)
 
 -- what every step keeps, a pump keeps
-module _ (P : Hub → Type 0) (keeps : (h : Hub) (l : Looked) → P h → P (stepHub h l)) where
+module _ (P : Hub → Type 0) (keeps : (h : Hub) (l : NextRecord) → P h → P (stepHub h l)) where
   run-keeps : (left : ℕ) (v : Verdict) (s : List ℕ) (p : Progress) → P (p .hub) → P (runOf left v s p .pumped .hub)
   unfolding runOf stepped steppedBy
   run-keeps zero going s p w = w
   run-keeps zero (stopping why) s p w = w
   run-keeps zero (refusing number) s p w = w
   run-keeps (suc left) going s p w =
-      run-keeps left (verdictOf left s (stepped s p)) s (stepped s p) (keeps (p .hub) (lookedOf (p .hub .waiting) s (p .at)) w)
+      run-keeps left (verdictOf left s (stepped s p)) s (stepped s p) (keeps (p .hub) (nextRecordOf (p .hub .waiting) s (p .at)) w)
   run-keeps (suc left) (stopping why) s p w = w
   run-keeps (suc left) (refusing number) s p w = w
 
@@ -139,5 +139,5 @@ pub waiting-small : {h : Hub} → Reached h → h .waiting ≤ 64
 waiting-small {h} w = sound-waiting h (reached-sound w)
 
 -- no event is ever lost: after a step there waits what waited behind the event taken, then all that the step queued
-pub reached-keeps : {h : Hub} (l : Looked) → Reached h → waitingList (stepHub h l) ≡ restOf h ++ pushesIn h l
+pub reached-keeps : {h : Hub} (l : NextRecord) → Reached h → waitingList (stepHub h l) ≡ restOf h ++ pushesIn h l
 reached-keeps {h} l w = nothing-lost h l (reached-sound w)

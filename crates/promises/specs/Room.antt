@@ -17,7 +17,7 @@ use Rattle.rules.specs.Places.{oneIf}
 use Rattle.rules.specs.Refusals.{recordRefusal}
 use Rattle.rules.specs.Events.{eventBytes}
 use Rattle.rules.specs.Filters.{keptOf}
-use Rattle.rules.specs.Step.{lookedBy, lookedOf, recordKind, stepRefusal, stepEvent}
+use Rattle.rules.specs.Step.{nextRecordBy, nextRecordOf, recordKind, stepRefusal, stepEvent}
 use Rattle.rules.specs.Pump.{Progress, drained, full, paused, goOn, stopOf, outAfter, placeAfter, stepped, steppedBy, startOf, pumpOf}
 use Rattle.promises.specs.Runs.{Goes, endOf, pump-holds}
 
@@ -25,12 +25,12 @@ use Rattle.promises.specs.Runs.{Goes, endOf, pump-holds}
 
 -- a record that is taken is well formed
 pub accepted-fits : (h : Hub) (s : List ℕ) (at : ℕ)
-    → recordRefusal (lookedBy (readRecord s at)) (h .pads) (recordKind h (lookedBy (readRecord s at) .raw)) ≡ 0 → recordFits s at ≡ true
+    → recordRefusal (nextRecordBy (readRecord s at)) (h .pads) (recordKind h (nextRecordBy (readRecord s at) .raw)) ≡ 0 → recordFits s at ≡ true
 unfolding readRecord recordRefusal
 accepted-fits h s at ok = by (recordFits s at) refl ok
   where
     by : (fits : Bool) → recordFits s at ≡ fits
-        → recordRefusal (lookedBy (readRecord s at)) (h .pads) (recordKind h (lookedBy (readRecord s at) .raw)) ≡ 0 → fits ≡ true
+        → recordRefusal (nextRecordBy (readRecord s at)) (h .pads) (recordKind h (nextRecordBy (readRecord s at) .raw)) ≡ 0 → fits ≡ true
     by true e ok = refl
     by false e ok = absurd (omega (arith, rw e at ok))
 
@@ -44,9 +44,9 @@ fits-inside s at e =
     whole true b e = refl
     whole false b e = e
 
-step-inside : (h : Hub) (s : List ℕ) (at : ℕ) (waits : Bool) → ltb 0 (h .waiting) ≡ waits → stepRefusal h (lookedOf (h .waiting) s at) ≡ 0
+step-inside : (h : Hub) (s : List ℕ) (at : ℕ) (waits : Bool) → ltb 0 (h .waiting) ≡ waits → stepRefusal h (nextRecordOf (h .waiting) s at) ≡ 0
     → at ≤ length s → placeAfter (h .waiting) at ≤ length s
-unfolding stepRefusal lookedOf placeAfter
+unfolding stepRefusal nextRecordOf placeAfter
 step-inside h s at true e ok inside = rw e inside
 step-inside h s at false e ok inside = rw e (fits-inside s at (accepted-fits h s at (rw e at ok)))
 
@@ -92,7 +92,7 @@ module _ (s : List ℕ) (place : ℕ) (out : List ℕ) where
   pub step-stays : (left : ℕ) (p : Progress) → Goes (suc left) s p → Stays s place out p → Stays s place out (stepped s p)
   unfolding stepped steppedBy
   step-stays left p goes w =
-      let l = lookedOf (p .hub .waiting) s (p .at) in
+      let l = nextRecordOf (p .hub .waiting) s (p .at) in
       let b = keptOf (p .hub .filters) (stepEvent (p .hub) l) in
       let room = room-left (p .hub .waiting) (length s - p .at) (length (p .out) - eventSize * p .events) (suc left) (goes .unstopped) in
       let long = w .long in

@@ -11,7 +11,7 @@ use borrow.Author.Tests.{ltb-true, eqb-true}
 use Rattle.rules.specs.declared.Hub.{Hub}
 use Rattle.rules.specs.Forms.{eventSize}
 use Rattle.rules.specs.Refusals.{pumpRefusal}
-use Rattle.rules.specs.Step.{lookedOf, stepRefusal}
+use Rattle.rules.specs.Step.{nextRecordOf, stepRefusal}
 use Rattle.rules.specs.Pump.{Progress, Run, Verdict, going, stopping, refusing, goOn, drained, full, paused, verdictBy, stopOf, verdictOf, stepped, endedBy, runOf, startOf, pumpBy, pumpOf}
 use Rattle.promises.specs.Machines.{placeSaid, eventsSaid, stepsSaid}
 
@@ -44,7 +44,7 @@ stopAt left s p = stopOf (p .hub .waiting) (length s - p .at) (length (p .out) -
 -- a run goes on only where no stop is due and the record is not refused
 pub record Goes (left : ℕ) (s : List ℕ) (p : Progress) : Type 0 where
   pub unstopped : stopAt left s p ≡ 0
-  pub accepted : stepRefusal (p .hub) (lookedOf (p .hub .waiting) s (p .at)) ≡ 0
+  pub accepted : stepRefusal (p .hub) (nextRecordOf (p .hub .waiting) s (p .at)) ≡ 0
 
 goes-by : (why number : ℕ) → verdictBy why number ≡ going → (why ≡ 0) × (number ≡ 0)
 goes-by zero zero e = (refl, refl)
@@ -54,7 +54,7 @@ goes-by (suc why) number e = (cc, cc)
 going-goes : (left : ℕ) (s : List ℕ) (p : Progress) → verdictOf left s p ≡ going → Goes left s p
 unfolding verdictOf
 going-goes left s p e =
-    let g = goes-by (stopAt left s p) (stepRefusal (p .hub) (lookedOf (p .hub .waiting) s (p .at))) e in
+    let g = goes-by (stopAt left s p) (stepRefusal (p .hub) (nextRecordOf (p .hub .waiting) s (p .at))) e in
     record { unstopped = g .0; accepted = g .1 }
 
 -- why a run stops where it stands

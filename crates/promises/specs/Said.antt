@@ -14,7 +14,7 @@ use Rattle.rules.specs.Forms.{readEvent}
 use Rattle.rules.specs.Sheets.{elementAxis}
 use Rattle.rules.specs.Refusals.{thresholdsRefusal, pumpRefusal, repeatRefusal, buttonQueryRefusal, axisQueryRefusal, nameQueryRefusal}
 use Rattle.rules.specs.Events.{eventBytes}
-use Rattle.rules.specs.Hub.{placeIn, nameIn, kindAt, elementAt, buttonAt, axisAt, touchedAt, movedAt, pressedAt, valueAt}
+use Rattle.rules.specs.Hub.{placeIn, nameIn, kindAt, elementAt, buttonAt, axisAt, hasButtonAt, hasAxisAt, pressedAt, valueAt}
 use Rattle.rules.specs.Pump.{drained, pumpOf}
 use Rattle.rules.specs.Repeat.{duePlace, repeatedAt, repeatOf}
 use Rattle.rules.specs.Calls.{freshHub, newBy, newOf, registerRefusal, registerOf, renameRefusal, renameBy, renameOf, updateOf, insertOf}
@@ -97,25 +97,25 @@ module _ (h : Hub) (p : ℕ) where
 
   pub said-button-data-by-code : (code : ℕ)
       → buttonSays (buttonByCode h p code)
-      ≡ judged (padRefusal h p) (present (touchedAt h (placeIn h p code)) (buttonValues (buttonAt h (placeIn h p code))))
+      ≡ judged (padRefusal h p) (present (hasButtonAt h (placeIn h p code)) (buttonValues (buttonAt h (placeIn h p code))))
   unfolding buttonByCode
   said-button-data-by-code code = button-said (padRefusal h p) _ _
 
   pub said-button-data : (name : ℕ)
       → buttonSays (buttonByName h p name)
-      ≡ judged (buttonQueryRefusal (h .pads) p name) (present (touchedAt h (namedIn h p name)) (buttonValues (buttonAt h (namedIn h p name))))
+      ≡ judged (buttonQueryRefusal (h .pads) p name) (present (hasButtonAt h (namedIn h p name)) (buttonValues (buttonAt h (namedIn h p name))))
   unfolding buttonByName
   said-button-data name = button-said (buttonQueryRefusal (h .pads) p name) _ _
 
   pub said-axis-data-by-code : (code : ℕ)
       → axisSays (axisByCode h p code)
-      ≡ judged (padRefusal h p) (present (movedAt h (placeIn h p code)) (axisValues (axisAt h (placeIn h p code))))
+      ≡ judged (padRefusal h p) (present (hasAxisAt h (placeIn h p code)) (axisValues (axisAt h (placeIn h p code))))
   unfolding axisByCode
   said-axis-data-by-code code = axis-said (padRefusal h p) _ _
 
   pub said-axis-data : (name : ℕ)
       → axisSays (axisByName h p name)
-      ≡ judged (axisQueryRefusal (h .pads) p name) (present (movedAt h (namedIn h p name)) (axisValues (axisAt h (namedIn h p name))))
+      ≡ judged (axisQueryRefusal (h .pads) p name) (present (hasAxisAt h (namedIn h p name)) (axisValues (axisAt h (namedIn h p name))))
   unfolding axisByName
   said-axis-data name = axis-said (axisQueryRefusal (h .pads) p name) _ _
 

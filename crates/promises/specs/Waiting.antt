@@ -1,5 +1,5 @@
 -- The waiting events of a hub as a list, from the front on, and what the ring does to it: events pushed where there is room stand behind it in their
--- order, and a step takes its first. So nothing that was queued is lost, and freed room is used again. Assumes nothing.
+-- order, and a step takes its first. So nothing that was queued is lost, and freed room is used again.
 use Prim.Native.Nat.{ℕ, zero, suc, _+_, _-_, _%_, _<_, _≤_}
 use mathlib.Core.List.{List, [], _∷_, _++_, append-nil, append-assoc}
 use mathlib.Core.Path.{_≡_, refl, ap, sym, _∙_}

@@ -1,5 +1,5 @@
 -- 01's weighted sum: "count a waiting DPadX or DPadY axis event as 4, any other as 1". What the filters queue behind an event weighs at most what the
--- event weighed, and what a record's event and the one behind it bring weighs at most 4. By the event's cases. Assumes nothing.
+-- event weighed, and what a record's event and the one behind it bring weighs at most 4. By the event's cases.
 use Prim.Native.Nat.{ℕ, _+_, _*_, _≤_}
 use mathlib.Core.Bool.{Bool, true, false, cond, not, _&&_}
 use mathlib.Core.List.{List, [], _∷_, _++_}
@@ -125,34 +125,34 @@ is-hat true hat e = e
 is-hat false hat e = let z : _≡_ {A = ℕ} 0 1 = cc in absurd (omega arith)
 
 module _ (v : View) (pad time n c : ℕ) (x : Float) where
-  abbrev moved : Event
-  moved = record { pad = pad; time = time; event = Axis n c x }
+  abbrev hasaxis : Event
+  hasaxis = record { pad = pad; time = time; event = Axis n c x }
 
   -- an axis event that the dpad leaves alone: at most the clearing event, which weighs as much
-  stick-light : weigh (behind v (alone moved)) ≤ cond (isHat n) hatWeight 1
+  stick-light : weigh (behind v (alone hasaxis)) ≤ cond (isHat n) hatWeight 1
   unfolding queuedOf joined deadzonedOf jitteredOf stickZoned weigh weightOf
   stick-light = by-jitter (v .stored && jitterOf x (v .stick))
     where
       by-clears : (clears : Bool)
-          → weigh (take (0 + oneIf clears) (set (moved ∷ moved ∷ moved ∷ moved ∷ []) 0 (record { pad = pad; time = time; event = Axis (partnerOf n) (v .partner .code) zero32 })))
+          → weigh (take (0 + oneIf clears) (set (hasaxis ∷ hasaxis ∷ hasaxis ∷ hasaxis ∷ []) 0 (record { pad = pad; time = time; event = Axis (partnerOf n) (v .partner .code) zero32 })))
           ≤ cond (isHat n) hatWeight 1
       by-clears true = rw (partner-hat n) (omega arith)
       by-clears false = omega arith
 
       by-dead : (dead : Bool)
-          → weigh (queuedOf (joined (alone moved) (cond dead (stickZoned v moved n c (shrunk v x)) (record { event = moved; clears = false; clearing = moved; flags = v .flags })) .gives))
+          → weigh (queuedOf (joined (alone hasaxis) (cond dead (stickZoned v hasaxis n c (shrunk v x)) (record { event = hasaxis; clears = false; clearing = hasaxis; flags = v .flags })) .gives))
           ≤ cond (isHat n) hatWeight 1
       by-dead true = by-clears (clearsPartner v (shrunk v x))
       by-dead false = omega arith
 
-      by-jitter : (jitters : Bool) → weigh (queuedOf (joined (alone moved) (deadzonedOf v (cond jitters (dropped moved) moved)) .gives)) ≤ cond (isHat n) hatWeight 1
+      by-jitter : (jitters : Bool) → weigh (queuedOf (joined (alone hasaxis) (deadzonedOf v (cond jitters (dropped hasaxis) hasaxis)) .gives)) ≤ cond (isHat n) hatWeight 1
       by-jitter true = omega arith
       by-jitter false = by-dead (v .dead)
 
-  axis-light : (hat : Bool) → (v .converts && isHat n) ≡ hat → weigh (behind v (cond hat (hatGives v moved n x) (alone moved))) ≤ cond (isHat n) hatWeight 1
+  axis-light : (hat : Bool) → (v .converts && isHat n) ≡ hat → weigh (behind v (cond hat (hatGives v hasaxis n x) (alone hasaxis))) ≤ cond (isHat n) hatWeight 1
   unfolding hatGives
   axis-light true e =
-      let few = hat-light (eq x one32) (eq x minusOne32) (v .positive) (v .negative) v moved (record { name = positiveName n; code = positiveCode n }) (record { name = negativeName n; code = negativeCode n }) in
+      let few = hat-light (eq x one32) (eq x minusOne32) (v .positive) (v .negative) v hasaxis (record { name = positiveName n; code = positiveCode n }) (record { name = negativeName n; code = negativeCode n }) in
       rw (is-hat (v .converts) (isHat n) e) (omega arith)
   axis-light false e = stick-light
 

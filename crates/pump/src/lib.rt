@@ -40,7 +40,7 @@ pub fn pump(hub: Hub, batch: &[u8], place: usize, out: &mut [u8], allowance: u16
                 };
             }
             // gather: the record, unless something waits, and what its code meets
-            let l = wire::look(batch, at, waiting);
+            let l = wire::next_record(batch, at, waiting);
             let raw = l.raw;
             let found = gather::find(
                 &h.codes,
@@ -48,7 +48,7 @@ pub fn pump(hub: Hub, batch: &[u8], place: usize, out: &mut [u8], allowance: u16
                 &h.names,
                 &h.renames,
                 &h.renamed,
-                &h.touched,
+                &h.hasbutton,
                 raw.pad,
                 raw.code,
             );
@@ -78,12 +78,12 @@ pub fn pump(hub: Hub, batch: &[u8], place: usize, out: &mut [u8], allowance: u16
             );
             // commit: the marks of a taken record, the ring, the place
             let p = choices::wide(raw.pad);
-            let marks = turn::join_run(raw.kind, PLACES_PER_PAD);
-            let flags = turn::join_run(raw.kind, FLAGS_PER_PAD);
+            let marks = turn::marks_cleared(raw.kind, PLACES_PER_PAD);
+            let flags = turn::marks_cleared(raw.kind, FLAGS_PER_PAD);
             turn::connect(&mut h.connected, raw.pad, raw.kind);
             turn::forget(&mut h.renamed, raw.pad, raw.kind);
-            pad::clear(&mut h.touched, PLACES_PER_PAD * p, marks);
-            pad::clear(&mut h.moved, PLACES_PER_PAD * p, marks);
+            pad::clear(&mut h.hasbutton, PLACES_PER_PAD * p, marks);
+            pad::clear(&mut h.hasaxis, PLACES_PER_PAD * p, marks);
             pad::clear_flags(&mut h.flags, FLAGS_PER_PAD * p, flags);
             h.head = turn::head_after(h.head, waiting);
             h.waiting = turn::fewer(waiting);
@@ -92,16 +92,16 @@ pub fn pump(hub: Hub, batch: &[u8], place: usize, out: &mut [u8], allowance: u16
             steps = steps + 1;
             // gather: what the filters see of the event
             let e = d.event;
-            let s = gather::sighted_again(
+            let s = gather::event_places(
                 &h.codes,
                 &h.kinds,
                 &h.names,
                 &h.renames,
                 &h.renamed,
                 &h.converts,
-                &h.reconverts,
-                &h.touched,
-                &h.moved,
+                &h.newconverts,
+                &h.hasbutton,
+                &h.hasaxis,
                 &h.flags,
                 e.pad,
                 events::name_of(e),
@@ -151,14 +151,14 @@ pub fn pump(hub: Hub, batch: &[u8], place: usize, out: &mut [u8], allowance: u16
         // commit: the state, and the event's bytes
         let k = pad::place_of(&h.codes, ev.pad, events::code_of(ev));
         let on = h.updates;
-        let touched = pad::bool_at(&h.touched, k);
-        let moved = pad::bool_at(&h.moved, k);
-        h.buttons[k] = turn::button_written(on, ev, touched, h.buttons[k], h.counter);
+        let hasbutton = pad::bool_at(&h.hasbutton, k);
+        let hasaxis = pad::bool_at(&h.hasaxis, k);
+        h.buttons[k] = turn::button_written(on, ev, hasbutton, h.buttons[k], h.counter);
         h.axes[k] = turn::axis_written(on, ev, h.axes[k], h.counter);
-        let pressed = turn::known_after(touched, on, state::writes_button(ev));
-        let placed = turn::known_after(moved, on, state::writes_axis(ev));
-        pad::mark(&mut h.touched, k, pressed);
-        pad::mark(&mut h.moved, k, placed);
+        let pressed = turn::known_after(hasbutton, on, state::writes_button(ev));
+        let placed = turn::known_after(hasaxis, on, state::writes_axis(ev));
+        pad::mark(&mut h.hasbutton, k, pressed);
+        pad::mark(&mut h.hasaxis, k, placed);
         wire::write_event(&mut out[EVENT_SIZE * events..], ev);
         events = events + 1;
     }

@@ -20,8 +20,8 @@ pub fn pump<'s>(
     kinds: &'s [u8; 208],
     names: &'s [u8; 208],
     renames: &'s [u8; 208],
-    touched: &mut [bool; 208],
-    moved: &mut [bool; 208],
+    hasbutton: &mut [bool; 208],
+    hasaxis: &mut [bool; 208],
     values: &mut Values,
     times: &mut Times,
     marks: &mut Marks,
@@ -33,11 +33,11 @@ pub fn pump<'s>(
     allowance: u16,
 ) -> PumpedHead
     ensures { λ r. ⌜ pumped r (listed (now (codes .entry)) (now (kinds .entry)) (now (names .entry)) (now (renames .entry)))
-        (columns (now (touched .exit)) (now (moved .exit)) (now (values .exit)) (now (times .exit)) (now (marks .exit))
+        (columns (now (hasbutton .exit)) (now (hasaxis .exit)) (now (values .exit)) (now (times .exit)) (now (marks .exit))
         (now (queuebytes .exit)) (now (queuecodes .exit)))
         (now (out .exit))
         ≡ pumpOf (hubOf head (listed (now (codes .entry)) (now (kinds .entry)) (now (names .entry)) (now (renames .entry)))
-        (columns (now (touched .entry)) (now (moved .entry)) (now (values .entry)) (now (times .entry)) (now (marks .entry))
+        (columns (now (hasbutton .entry)) (now (hasaxis .entry)) (now (values .entry)) (now (times .entry)) (now (marks .entry))
         (now (queuebytes .entry)) (now (queuecodes .entry))))
         (now (batch .entry)) place (now (out .entry)) allowance ⌝ }
 {
@@ -69,7 +69,7 @@ pub fn pump<'s>(
                 };
             }
             // gather: the record, unless something waits, and what its code meets
-            let l = wire::look(batch, at, waiting);
+            let l = wire::next_record(batch, at, waiting);
             let raw = l.raw;
             let found = gather::find(
                 codes,
@@ -77,7 +77,7 @@ pub fn pump<'s>(
                 names,
                 renames,
                 &h.renamed,
-                touched,
+                hasbutton,
                 raw.pad,
                 raw.code,
             );
@@ -110,8 +110,8 @@ pub fn pump<'s>(
             passing::mark_joins(
                 &mut connected,
                 &mut renamed,
-                touched,
-                moved,
+                hasbutton,
+                hasaxis,
                 &mut flags,
                 raw.pad,
                 raw.kind,
@@ -132,9 +132,9 @@ pub fn pump<'s>(
                 renames,
                 &h.renamed,
                 &h.converts,
-                &h.reconverts,
-                touched,
-                moved,
+                &h.newconverts,
+                hasbutton,
+                hasaxis,
                 values,
                 times,
                 marks,
@@ -172,8 +172,8 @@ pub fn pump<'s>(
         // commit: the state, and the event's bytes
         let k = pad::place_of(codes, ev.pad, events::code_of(ev));
         cells::update(
-            touched,
-            moved,
+            hasbutton,
+            hasaxis,
             values,
             times,
             marks,

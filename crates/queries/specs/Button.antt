@@ -1,4 +1,4 @@
--- The place that `is_pressed` by a name reads, over the hub's columns as lists. Definitions only. Assumes nothing.
+-- The place that `is_pressed` by a name reads, over the hub's columns as lists. Definitions only.
 use Prim.Native.Nat.{ℕ}
 use mathlib.Core.Bool.{Bool, cond}
 use mathlib.Core.List.{List}

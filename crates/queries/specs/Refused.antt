@@ -1,5 +1,4 @@
 -- A number other than 0 is a refusal's: each answer that carries one. By the number's two cases. And the test for a name, as the law book writes it.
--- Assumes nothing.
 use Prim.Native.Nat.{ℕ, zero, suc}
 use mathlib.Core.Path.{_≡_, refl}
 use mathlib.Core.Bool.{Bool, true, false, cond, not}

@@ -4,11 +4,11 @@ ghost use mathlib.Core.Path.{_≡_};
 ghost use mathlib.Core.Bool.{true};
 ghost use Prim.Native.Nat.{_≤_};
 ghost use Rattle.rules.specs.Names.{nowhere};
-ghost use Rattle.rules.specs.Hub.{pressedAt, valueAt, touchedAt, movedAt, buttonAt, axisAt};
+ghost use Rattle.rules.specs.Hub.{pressedAt, valueAt, hasButtonAt, hasAxisAt, buttonAt, axisAt};
 ghost use Rattle.rules.specs.Queries.{truthBy, valueBy, buttonBy, axisBy, numberBy};
 ghost use Rattle.rules.specs.Queries.{pressedByCode, pressedByName, connectedOf, valueByCode, valueByName, thresholdByCode};
 ghost use Rattle.rules.specs.Queries.{buttonByCode, buttonByName, axisByCode, axisByName, nameByCode, codeByName};
-ghost use Rattle.gather.specs.Sight.{PlaceIs};
+ghost use Rattle.gather.specs.EventPlaces.{PlaceIs};
 ghost use Rattle.queries.specs.Button.{buttonPlaceOf};
 use rules::AxisAnswer;
 use rules::AxisData;
@@ -92,38 +92,38 @@ fn pressed_at(h: Hub, refusal: u8, place: usize) -> TruthAnswer
     requires { ⌜ place ≤ nowhere ⌝ }
     ensures { λ r. ⌜ r ≡ truthBy refusal (pressedAt h place) ⌝ }
 {
-    let touched = pad::bool_at(&h.touched, place);
+    let hasbutton = pad::bool_at(&h.hasbutton, place);
     let b = h.buttons[place];
-    truth(refusal, state::read_pressed(touched, b))
+    truth(refusal, state::read_pressed(hasbutton, b))
 }
 
 fn value_at(h: Hub, refusal: u8, place: usize) -> ValueAnswer
     requires { ⌜ place ≤ nowhere ⌝ }
     ensures { λ r. ⌜ r ≡ valueBy refusal true (valueAt h place) ⌝ }
 {
-    let moved = pad::bool_at(&h.moved, place);
+    let hasaxis = pad::bool_at(&h.hasaxis, place);
     let a = h.axes[place];
-    let touched = pad::bool_at(&h.touched, place);
+    let hasbutton = pad::bool_at(&h.hasbutton, place);
     let b = h.buttons[place];
-    value_or_absent(refusal, true, state::read_value(moved, a, touched, b))
+    value_or_absent(refusal, true, state::read_value(hasaxis, a, hasbutton, b))
 }
 
 fn button_at(h: Hub, refusal: u8, place: usize) -> ButtonAnswer
     requires { ⌜ place ≤ nowhere ⌝ }
-    ensures { λ r. ⌜ r ≡ buttonBy refusal (touchedAt h place) (buttonAt h place) ⌝ }
+    ensures { λ r. ⌜ r ≡ buttonBy refusal (hasButtonAt h place) (buttonAt h place) ⌝ }
 {
-    let touched = pad::bool_at(&h.touched, place);
+    let hasbutton = pad::bool_at(&h.hasbutton, place);
     let b = h.buttons[place];
-    button_or_absent(refusal, touched, b)
+    button_or_absent(refusal, hasbutton, b)
 }
 
 fn axis_at(h: Hub, refusal: u8, place: usize) -> AxisAnswer
     requires { ⌜ place ≤ nowhere ⌝ }
-    ensures { λ r. ⌜ r ≡ axisBy refusal (movedAt h place) (axisAt h place) ⌝ }
+    ensures { λ r. ⌜ r ≡ axisBy refusal (hasAxisAt h place) (axisAt h place) ⌝ }
 {
-    let moved = pad::bool_at(&h.moved, place);
+    let hasaxis = pad::bool_at(&h.hasaxis, place);
     let a = h.axes[place];
-    axis_or_absent(refusal, moved, a)
+    axis_or_absent(refusal, hasaxis, a)
 }
 
 // ---- pressed

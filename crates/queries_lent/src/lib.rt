@@ -13,7 +13,7 @@ ghost use Rattle.rules.specs.Hub.{pastButton, pastAxis};
 ghost use Rattle.rules.specs.Queries.{truthBy, valueBy, buttonBy, axisBy, numberBy};
 ghost use Rattle.rules.specs.Queries.{pressedByCode, pressedByName, connectedOf, valueByCode, valueByName, thresholdByCode};
 ghost use Rattle.rules.specs.Queries.{buttonByCode, buttonByName, axisByCode, axisByName, nameByCode, codeByName};
-ghost use Rattle.gather.specs.Sight.{PlaceIs};
+ghost use Rattle.gather.specs.EventPlaces.{PlaceIs};
 ghost use Rattle.columns.specs.Columns.{buttonsOf, axesOf};
 ghost use Rattle.hub.specs.Lent.{Listed, Columns, listed, columns, hubOf};
 ghost use Rattle.rules.specs.Queries.{buttonPlaceOf};
@@ -99,7 +99,7 @@ fn axis_or_absent(refusal: u8, here: bool, a: AxisData) -> AxisAnswer
 // ---- what stands at a place, behind a refusal
 
 fn pressed_at(
-    touched: &[bool; 208],
+    hasbutton: &[bool; 208],
     values: &Values,
     times: &Times,
     marks: &Marks,
@@ -107,17 +107,17 @@ fn pressed_at(
     place: usize,
 ) -> TruthAnswer
     requires { ⌜ place ≤ nowhere ⌝ }
-    ensures { λ r. ⌜ r ≡ truthBy refusal (readPressed (getD (now (touched .entry)) place false)
+    ensures { λ r. ⌜ r ≡ truthBy refusal (readPressed (getD (now (hasbutton .entry)) place false)
         (getD (buttonsOf (now (values .entry)) (now (times .entry)) (now (marks .entry))) place pastButton)) ⌝ }
 {
-    let known = pad::bool_at(touched, place);
+    let known = pad::bool_at(hasbutton, place);
     let b = columns::button_at(values, times, marks, place);
     truth(refusal, state::read_pressed(known, b))
 }
 
 fn value_at(
-    touched: &[bool; 208],
-    moved: &[bool; 208],
+    hasbutton: &[bool; 208],
+    hasaxis: &[bool; 208],
     values: &Values,
     times: &Times,
     marks: &Marks,
@@ -125,19 +125,19 @@ fn value_at(
     place: usize,
 ) -> ValueAnswer
     requires { ⌜ place ≤ nowhere ⌝ }
-    ensures { λ r. ⌜ r ≡ valueBy refusal true (readValue (getD (now (moved .entry)) place false)
-        (getD (axesOf (now (values .entry)) (now (times .entry))) place pastAxis) (getD (now (touched .entry)) place false)
+    ensures { λ r. ⌜ r ≡ valueBy refusal true (readValue (getD (now (hasaxis .entry)) place false)
+        (getD (axesOf (now (values .entry)) (now (times .entry))) place pastAxis) (getD (now (hasbutton .entry)) place false)
         (getD (buttonsOf (now (values .entry)) (now (times .entry)) (now (marks .entry))) place pastButton)) ⌝ }
 {
-    let sticks = pad::bool_at(moved, place);
+    let sticks = pad::bool_at(hasaxis, place);
     let a = columns::axis_at(values, times, place);
-    let known = pad::bool_at(touched, place);
+    let known = pad::bool_at(hasbutton, place);
     let b = columns::button_at(values, times, marks, place);
     value_or_absent(refusal, true, state::read_value(sticks, a, known, b))
 }
 
 fn button_at(
-    touched: &[bool; 208],
+    hasbutton: &[bool; 208],
     values: &Values,
     times: &Times,
     marks: &Marks,
@@ -145,26 +145,26 @@ fn button_at(
     place: usize,
 ) -> ButtonAnswer
     requires { ⌜ place ≤ nowhere ⌝ }
-    ensures { λ r. ⌜ r ≡ buttonBy refusal (getD (now (touched .entry)) place false)
+    ensures { λ r. ⌜ r ≡ buttonBy refusal (getD (now (hasbutton .entry)) place false)
         (getD (buttonsOf (now (values .entry)) (now (times .entry)) (now (marks .entry))) place pastButton) ⌝ }
 {
-    let known = pad::bool_at(touched, place);
+    let known = pad::bool_at(hasbutton, place);
     let b = columns::button_at(values, times, marks, place);
     button_or_absent(refusal, known, b)
 }
 
 fn axis_at(
-    moved: &[bool; 208],
+    hasaxis: &[bool; 208],
     values: &Values,
     times: &Times,
     refusal: u8,
     place: usize,
 ) -> AxisAnswer
     requires { ⌜ place ≤ nowhere ⌝ }
-    ensures { λ r. ⌜ r ≡ axisBy refusal (getD (now (moved .entry)) place false)
+    ensures { λ r. ⌜ r ≡ axisBy refusal (getD (now (hasaxis .entry)) place false)
         (getD (axesOf (now (values .entry)) (now (times .entry))) place pastAxis) ⌝ }
 {
-    let sticks = pad::bool_at(moved, place);
+    let sticks = pad::bool_at(hasaxis, place);
     let a = columns::axis_at(values, times, place);
     axis_or_absent(refusal, sticks, a)
 }
@@ -174,21 +174,21 @@ fn axis_at(
 pub fn is_pressed_by_code(
     head: Head,
     codes: &[u32; 208],
-    touched: &[bool; 208],
+    hasbutton: &[bool; 208],
     values: &Values,
     times: &Times,
     marks: &Marks,
     p: u8,
     code: u32,
 ) -> TruthAnswer
-    ensures { λ r. ⌜ ((kinds names renames queuebytes queuecodes : List ℕ) (moved : List Bool) →
+    ensures { λ r. ⌜ ((kinds names renames queuebytes queuecodes : List ℕ) (hasaxis : List Bool) →
         r ≡ pressedByCode (hubOf head (listed (now (codes .entry)) kinds names renames)
-        (columns (now (touched .entry)) moved (now (values .entry)) (now (times .entry)) (now (marks .entry)) queuebytes queuecodes))
+        (columns (now (hasbutton .entry)) hasaxis (now (values .entry)) (now (times .entry)) (now (marks .entry)) queuebytes queuecodes))
         p code) ⌝ }
 {
     let refusal = refusals::pad_refusal(head.pads, p);
     let place = pad::place_of(codes, p, code);
-    pressed_at(touched, values, times, marks, refusal, place)
+    pressed_at(hasbutton, values, times, marks, refusal, place)
 }
 
 // "`is_pressed` by a name that no element has falls back to `to_nec`"
@@ -215,21 +215,21 @@ pub fn is_pressed<'s>(
     codes: &'s [u32; 208],
     names: &'s [u8; 208],
     renames: &'s [u8; 208],
-    touched: &[bool; 208],
+    hasbutton: &[bool; 208],
     values: &Values,
     times: &Times,
     marks: &Marks,
     p: u8,
     name: u8,
 ) -> TruthAnswer
-    ensures { λ r. ⌜ ((kinds queuebytes queuecodes : List ℕ) (moved : List Bool) →
+    ensures { λ r. ⌜ ((kinds queuebytes queuecodes : List ℕ) (hasaxis : List Bool) →
         r ≡ pressedByName (hubOf head (listed (now (codes .entry)) kinds (now (names .entry)) (now (renames .entry)))
-        (columns (now (touched .entry)) moved (now (values .entry)) (now (times .entry)) (now (marks .entry)) queuebytes queuecodes))
+        (columns (now (hasbutton .entry)) hasaxis (now (values .entry)) (now (times .entry)) (now (marks .entry)) queuebytes queuecodes))
         p name) ⌝ }
 {
     let refusal = refusals::button_query_refusal(head.pads, p, name);
     let place = button_place(codes, names, renames, &head.renamed, p, name);
-    pressed_at(touched, values, times, marks, refusal, place)
+    pressed_at(hasbutton, values, times, marks, refusal, place)
 }
 
 // ---- value
@@ -237,8 +237,8 @@ pub fn is_pressed<'s>(
 pub fn value_by_code(
     head: Head,
     codes: &[u32; 208],
-    touched: &[bool; 208],
-    moved: &[bool; 208],
+    hasbutton: &[bool; 208],
+    hasaxis: &[bool; 208],
     values: &Values,
     times: &Times,
     marks: &Marks,
@@ -247,20 +247,20 @@ pub fn value_by_code(
 ) -> ValueAnswer
     ensures { λ r. ⌜ ((kinds names renames queuebytes queuecodes : List ℕ) →
         r ≡ valueByCode (hubOf head (listed (now (codes .entry)) kinds names renames)
-        (columns (now (touched .entry)) (now (moved .entry)) (now (values .entry)) (now (times .entry)) (now (marks .entry)) queuebytes queuecodes))
+        (columns (now (hasbutton .entry)) (now (hasaxis .entry)) (now (values .entry)) (now (times .entry)) (now (marks .entry)) queuebytes queuecodes))
         p code) ⌝ }
 {
     let refusal = refusals::pad_refusal(head.pads, p);
     let place = pad::place_of(codes, p, code);
-    value_at(touched, moved, values, times, marks, refusal, place)
+    value_at(hasbutton, hasaxis, values, times, marks, refusal, place)
 }
 
 pub fn value<'s>(
     head: Head,
     names: &'s [u8; 208],
     renames: &'s [u8; 208],
-    touched: &[bool; 208],
-    moved: &[bool; 208],
+    hasbutton: &[bool; 208],
+    hasaxis: &[bool; 208],
     values: &Values,
     times: &Times,
     marks: &Marks,
@@ -269,12 +269,12 @@ pub fn value<'s>(
 ) -> ValueAnswer
     ensures { λ r. ⌜ ((codes kinds queuebytes queuecodes : List ℕ) →
         r ≡ valueByName (hubOf head (listed codes kinds (now (names .entry)) (now (renames .entry)))
-        (columns (now (touched .entry)) (now (moved .entry)) (now (values .entry)) (now (times .entry)) (now (marks .entry)) queuebytes queuecodes))
+        (columns (now (hasbutton .entry)) (now (hasaxis .entry)) (now (values .entry)) (now (times .entry)) (now (marks .entry)) queuebytes queuecodes))
         p name) ⌝ }
 {
     let refusal = refusals::axis_query_refusal(head.pads, p, name);
     let place = gather::present_place(names, renames, &head.renamed, p, name);
-    value_at(touched, moved, values, times, marks, refusal, place)
+    value_at(hasbutton, hasaxis, values, times, marks, refusal, place)
 }
 
 // ---- records
@@ -282,81 +282,81 @@ pub fn value<'s>(
 pub fn button_data_by_code(
     head: Head,
     codes: &[u32; 208],
-    touched: &[bool; 208],
+    hasbutton: &[bool; 208],
     values: &Values,
     times: &Times,
     marks: &Marks,
     p: u8,
     code: u32,
 ) -> ButtonAnswer
-    ensures { λ r. ⌜ ((kinds names renames queuebytes queuecodes : List ℕ) (moved : List Bool) →
+    ensures { λ r. ⌜ ((kinds names renames queuebytes queuecodes : List ℕ) (hasaxis : List Bool) →
         r ≡ buttonByCode (hubOf head (listed (now (codes .entry)) kinds names renames)
-        (columns (now (touched .entry)) moved (now (values .entry)) (now (times .entry)) (now (marks .entry)) queuebytes queuecodes))
+        (columns (now (hasbutton .entry)) hasaxis (now (values .entry)) (now (times .entry)) (now (marks .entry)) queuebytes queuecodes))
         p code) ⌝ }
 {
     let refusal = refusals::pad_refusal(head.pads, p);
     let place = pad::place_of(codes, p, code);
-    button_at(touched, values, times, marks, refusal, place)
+    button_at(hasbutton, values, times, marks, refusal, place)
 }
 
 pub fn button_data<'s>(
     head: Head,
     names: &'s [u8; 208],
     renames: &'s [u8; 208],
-    touched: &[bool; 208],
+    hasbutton: &[bool; 208],
     values: &Values,
     times: &Times,
     marks: &Marks,
     p: u8,
     name: u8,
 ) -> ButtonAnswer
-    ensures { λ r. ⌜ ((codes kinds queuebytes queuecodes : List ℕ) (moved : List Bool) →
+    ensures { λ r. ⌜ ((codes kinds queuebytes queuecodes : List ℕ) (hasaxis : List Bool) →
         r ≡ buttonByName (hubOf head (listed codes kinds (now (names .entry)) (now (renames .entry)))
-        (columns (now (touched .entry)) moved (now (values .entry)) (now (times .entry)) (now (marks .entry)) queuebytes queuecodes))
+        (columns (now (hasbutton .entry)) hasaxis (now (values .entry)) (now (times .entry)) (now (marks .entry)) queuebytes queuecodes))
         p name) ⌝ }
 {
     let refusal = refusals::button_query_refusal(head.pads, p, name);
     let place = gather::present_place(names, renames, &head.renamed, p, name);
-    button_at(touched, values, times, marks, refusal, place)
+    button_at(hasbutton, values, times, marks, refusal, place)
 }
 
 pub fn axis_data_by_code(
     head: Head,
     codes: &[u32; 208],
-    moved: &[bool; 208],
+    hasaxis: &[bool; 208],
     values: &Values,
     times: &Times,
     p: u8,
     code: u32,
 ) -> AxisAnswer
-    ensures { λ r. ⌜ ((kinds names renames queuebytes queuecodes : List ℕ) → (touched marks : List Bool) →
+    ensures { λ r. ⌜ ((kinds names renames queuebytes queuecodes : List ℕ) → (hasbutton marks : List Bool) →
         r ≡ axisByCode (hubOf head (listed (now (codes .entry)) kinds names renames)
-        (columns touched (now (moved .entry)) (now (values .entry)) (now (times .entry)) marks queuebytes queuecodes))
+        (columns hasbutton (now (hasaxis .entry)) (now (values .entry)) (now (times .entry)) marks queuebytes queuecodes))
         p code) ⌝ }
 {
     let refusal = refusals::pad_refusal(head.pads, p);
     let place = pad::place_of(codes, p, code);
-    axis_at(moved, values, times, refusal, place)
+    axis_at(hasaxis, values, times, refusal, place)
 }
 
 pub fn axis_data<'s>(
     head: Head,
     names: &'s [u8; 208],
     renames: &'s [u8; 208],
-    moved: &[bool; 208],
+    hasaxis: &[bool; 208],
     values: &Values,
     times: &Times,
     p: u8,
     name: u8,
 ) -> AxisAnswer
-    ensures { λ r. ⌜ ((codes kinds queuebytes queuecodes : List ℕ) → (touched marks : List Bool) →
+    ensures { λ r. ⌜ ((codes kinds queuebytes queuecodes : List ℕ) → (hasbutton marks : List Bool) →
         r ≡ axisByName (hubOf head (listed codes kinds (now (names .entry)) (now (renames .entry)))
-        (columns touched (now (moved .entry)) (now (values .entry)) (now (times .entry)) marks queuebytes queuecodes))
+        (columns hasbutton (now (hasaxis .entry)) (now (values .entry)) (now (times .entry)) marks queuebytes queuecodes))
         p name) ⌝ }
 {
     let refusal = refusals::axis_query_refusal(head.pads, p, name);
     let place = gather::present_place(names, renames, &head.renamed, p, name);
-    axis_at(moved, values, times, refusal, place)
+    axis_at(hasaxis, values, times, refusal, place)
 }
 
 // ---- the sheet: thresholds, names and codes
@@ -371,9 +371,9 @@ pub fn deadzone_threshold(
     p: u8,
     code: u32,
 ) -> ValueAnswer
-    ensures { λ r. ⌜ ((names renames times queuebytes queuecodes : List ℕ) → (touched moved : List Bool) →
+    ensures { λ r. ⌜ ((names renames times queuebytes queuecodes : List ℕ) → (hasbutton hasaxis : List Bool) →
         r ≡ thresholdByCode (hubOf head (listed (now (codes .entry)) (now (kinds .entry)) names renames)
-        (columns touched moved (now (values .entry)) times (now (marks .entry)) queuebytes queuecodes))
+        (columns hasbutton hasaxis (now (values .entry)) times (now (marks .entry)) queuebytes queuecodes))
         p code) ⌝ }
 {
     let refusal = refusals::pad_refusal(head.pads, p);
@@ -392,9 +392,9 @@ pub fn axis_or_btn_name<'s>(
     p: u8,
     code: u32,
 ) -> NumberAnswer
-    ensures { λ r. ⌜ ((kinds times queuebytes queuecodes : List ℕ) → (touched moved marks : List Bool) (values : List Float) →
+    ensures { λ r. ⌜ ((kinds times queuebytes queuecodes : List ℕ) → (hasbutton hasaxis marks : List Bool) (values : List Float) →
         r ≡ nameByCode (hubOf head (listed (now (codes .entry)) kinds (now (names .entry)) (now (renames .entry)))
-        (columns touched moved values times marks queuebytes queuecodes))
+        (columns hasbutton hasaxis values times marks queuebytes queuecodes))
         p code) ⌝ }
 {
     let refusal = refusals::pad_refusal(head.pads, p);
@@ -412,9 +412,9 @@ pub fn code_of_name<'s>(
     p: u8,
     name: u8,
 ) -> NumberAnswer
-    ensures { λ r. ⌜ ((kinds times queuebytes queuecodes : List ℕ) → (touched moved marks : List Bool) (values : List Float) →
+    ensures { λ r. ⌜ ((kinds times queuebytes queuecodes : List ℕ) → (hasbutton hasaxis marks : List Bool) (values : List Float) →
         r ≡ codeByName (hubOf head (listed (now (codes .entry)) kinds (now (names .entry)) (now (renames .entry)))
-        (columns touched moved values times marks queuebytes queuecodes))
+        (columns hasbutton hasaxis values times marks queuebytes queuecodes))
         p name) ⌝ }
 {
     let refusal = refusals::name_query_refusal(head.pads, p, name);

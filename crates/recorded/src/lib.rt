@@ -53,11 +53,11 @@ fn written(case: &[u8; 104]) -> bool {
     let e = cases::event(case, cases::GIVEN);
     let counter = cases::long(case, 22);
     let known = cases::mark(before, 1);
-    let moved = cases::mark(before, 8);
+    let hasaxis = cases::mark(before, 8);
     if !cases::agree(known || state::writes_button(e), cases::mark(after, 1)) {
         return false;
     }
-    if !cases::agree(moved || state::writes_axis(e), cases::mark(after, 8)) {
+    if !cases::agree(hasaxis || state::writes_axis(e), cases::mark(after, 8)) {
         return false;
     }
     let b = state::button_after(e, known, button(case, before, 10), counter);

@@ -12,8 +12,8 @@ use rules::ELEMENT_BUTTON;
 use rules::EVENT_AXIS;
 use rules::EventForm;
 use rules::KIND_AXIS;
-use rules::Looked;
 use rules::NOWHERE;
+use rules::NextRecord;
 use rules::PADS;
 use rules::RawRecord;
 
@@ -122,7 +122,7 @@ pub fn fields_refusal(raw: RawRecord, pads: u8, kind: u8) -> u8
     )
 }
 
-pub fn record_refusal(l: Looked, pads: u8, kind: u8) -> u8
+pub fn record_refusal(l: NextRecord, pads: u8, kind: u8) -> u8
     ensures { λ r. ⌜ r ≡ recordRefusal l pads kind ⌝ }
 {
     let raw = l.raw;

@@ -1,5 +1,5 @@
 -- A place that the hub keeps as an axis's is a listed axis element's: what is kept there is what the element's min, max and deadzone give, and they lie inside
--- 01's limits. For registration lays an element's row, or one of no kind; and past the last place stands no kind either. Assumes nothing.
+-- 01's limits. For registration lays an element's row, or one of no kind; and past the last place stands no kind either.
 use Prim.Native.Nat.{ℕ, zero, suc, _+_, _-_, _*_, _<_}
 use mathlib.Core.Bool.{Bool, true, false}
 use mathlib.Core.List.{List}

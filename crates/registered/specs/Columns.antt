@@ -1,5 +1,5 @@
 -- What the hub keeps of a registered pad is what its sheet says: the pad's 52 places have the rows that registration lays, and another pad's registration
--- leaves them alone. Assumes nothing.
+-- leaves them alone.
 use Prim.Native.Nat.{ℕ, zero, suc, _+_, _-_, _*_, _<_, _≤_}
 use mathlib.Core.Bool.{Bool, true, false}
 use mathlib.Core.List.{List, [], _∷_, map}

@@ -1,5 +1,4 @@
 -- Where a code is found, and whether a pad converts, depend on the pad's own 52 places alone, so another pad's registration does not change them.
--- Assumes nothing.
 use Prim.Native.Nat.{ℕ, zero, suc, _+_, _-_, _*_, _/_, _<_, _≤_}
 use mathlib.Core.Bool.{Bool, true, false, cond}
 use mathlib.Core.List.{List}

@@ -1,5 +1,5 @@
 -- The four directions have places in every registered pad, listed or not: "an event may also carry a direction code". With room for what is left to lay, each
--- direction that is left is laid, by itself or as the element that has its code. Assumes nothing.
+-- direction that is left is laid, by itself or as the element that has its code.
 use Prim.Native.Nat.{ℕ, zero, suc, _+_, _-_, _*_, _<_, _≤_}
 use mathlib.Core.Bool.{Bool, true, false}
 use mathlib.Core.List.{List, _∷_}

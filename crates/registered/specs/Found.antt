@@ -1,5 +1,5 @@
 -- A listed element is found: the lookup of its code in a kept pad answers the place that registration gave it, with its kind, its name and what is kept of
--- its limits. By the scan that the lookup equals on codes that do not fall. Assumes nothing.
+-- its limits. By the scan that the lookup equals on codes that do not fall.
 use Prim.Native.Nat.{ℕ, _+_, _-_, _*_, _<_, _≤_}
 use mathlib.Core.Bool.{Bool, true, false, cond}
 use mathlib.Core.List.{List}

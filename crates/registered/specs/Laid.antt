@@ -1,4 +1,4 @@
--- A column after a run of it is laid: the run has the values, a place before or behind it what it had, and the column its length. Assumes nothing.
+-- A column after a run of it is laid: the run has the values, a place before or behind it what it had, and the column its length.
 use Prim.Native.Nat.{ℕ, zero, suc, _+_, _<_, _≤_}
 use mathlib.Core.List.{List, [], _∷_}
 use mathlib.Core.Path.{_≡_, refl, _∙_}

@@ -1,5 +1,5 @@
 -- Every hub that the public calls reach: at most four pads stand, each keeps the sheet that it was registered with, its codes do not fall, and the lookup of
--- a code answers what a plain scan of its places would. By induction on the calls; only registration touches the sheets' columns. Assumes nothing.
+-- a code answers what a plain scan of its places would. By induction on the calls; only registration touches the sheets' columns.
 use Prim.Native.Nat.{ℕ, zero, suc, _+_, _*_, _<_, _≤_}
 use mathlib.Core.Bool.{Bool, true, false}
 use mathlib.Core.List.{List, map}
@@ -14,13 +14,13 @@ use Rattle.rules.specs.declared.Hub.{Hub}
 use Rattle.rules.specs.declared.EventForm.{EventForm}
 use Rattle.rules.specs.declared.EventRead.{EventRead}
 use Rattle.rules.specs.declared.EventRead.the-variants as eventRead
-use Rattle.rules.specs.declared.Looked.{Looked}
+use Rattle.rules.specs.declared.NextRecord.{NextRecord}
 use Rattle.rules.specs.Names.{padLimit, placesPerPad, nowhere, codeUp}
 use Rattle.rules.specs.Forms.{readEvent}
 use Rattle.rules.specs.Sheets.{sheetRefusal, hatsOf, countOf, elementOf}
 use Rattle.rules.specs.Places.{directions, placeOf, scanOf, rowsOf, convertsOf}
 use Rattle.rules.specs.Refusals.{thresholdsRefusal, formRefusal, insertRefusal}
-use Rattle.rules.specs.Step.{markedOf, pushedOf, turnedOf, updatedAt, updatedOf, stepHub}
+use Rattle.rules.specs.Step.{markedOf, pushedOf, filteredHub, updatedAt, updatedOf, stepHub}
 use Rattle.rules.specs.Calls.{rowCode, rowName, freshHub, idleHub, newBy, newOf, registeredAt, registerRefusal, registerBy, registerOf, renamedAt, renameRefusal, renameBy, renameOf, formPlace, updateFormBy, updateBy, updateOf, insertedAt, insertFormBy, insertBy, insertOf, countedAt, incOf, resetOf}
 use Rattle.pad.specs.Rising.{NeverFalls, place-is-scan}
 use Rattle.promises.specs.Reach.{Reached, new, register, rename, step, update, insert, inc, reset}
@@ -98,8 +98,8 @@ abbrev alike-by : (h g : Hub) → g .pads ≡ h .pads → g .codes ≡ h .codes 
     → g .counts ≡ h .counts → g .hats ≡ h .hats → g .converts ≡ h .converts → Alike h g
 alike-by h g a b c d e f i j = record { pads = a; codes = b; kinds = c; names = d; elements = e; counts = f; hats = i; converts = j }
 
-pub step-alike : (h : Hub) (l : Looked) → Alike h (stepHub h l)
-unfolding stepHub updatedOf updatedAt turnedOf pushedOf markedOf
+pub step-alike : (h : Hub) (l : NextRecord) → Alike h (stepHub h l)
+unfolding stepHub updatedOf updatedAt filteredHub pushedOf markedOf
 step-alike h l = alike-by h _ refl refl refl refl refl refl refl refl
 
 pub form-alike : (number : ℕ) (h : Hub) (f : EventForm) → Alike h (updateFormBy number h f .hub)

@@ -1,5 +1,5 @@
 -- The 52 places that registration lays for a good sheet: their codes do not fall, and each listed element stands in one, behind places of smaller codes.
--- By what stands next: an element, a direction, both at once, or nothing more. Assumes nothing.
+-- By what stands next: an element, a direction, both at once, or nothing more.
 use Prim.Native.Nat.{ℕ, zero, suc, _+_, _-_, _<_, _≤_}
 use mathlib.Core.Bool.{Bool, true, false, _&&_, _||_}
 use mathlib.Core.List.{List, [], _∷_, map}

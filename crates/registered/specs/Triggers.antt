@@ -1,5 +1,5 @@
 -- A registered trigger's values have no sign and are values of binary32: what scaling makes of a raw value by the kept low end and range, and what the deadzone
--- makes of that by the kept threshold. So two that compare as equal are one (`signs`, `proper-eq`). Assumes nothing.
+-- makes of that by the kept threshold. So two that compare as equal are one (`signs`, `proper-eq`).
 use Prim.Native.Nat.{ℕ, _<_}
 use mathlib.Core.Bool.{true}
 use mathlib.Core.Path.{_≡_}

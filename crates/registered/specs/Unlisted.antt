@@ -1,5 +1,5 @@
 -- A code that the sheet does not list and that is no direction's is not found in the pad: 9, "code not listed (an event may also carry a direction code)",
--- is given for exactly these. Every row has an element's code, a direction's, or that of a row before it. Assumes nothing.
+-- is given for exactly these. Every row has an element's code, a direction's, or that of a row before it.
 use Prim.Native.Nat.{ℕ, zero, suc, _+_, _-_, _*_, _<_}
 use mathlib.Core.Bool.{Bool, true, false}
 use mathlib.Core.List.{List}

@@ -1,5 +1,4 @@
 -- What the walks of `scan` and `first_due` both speak of: the types of their parameters, a local that is read, and a number that is put in front of what is owned.
--- Assumes nothing.
 use mathlib.Core.Path.{_≡_, refl}
 use mathlib.Core.List.{List, [], _∷_}
 use Prim.Native.Nat.{ℕ, _<_, _^_}

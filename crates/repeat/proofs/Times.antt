@@ -1,4 +1,4 @@
--- A due record's next time is no later than now, so that the sum of its stamp and its wait fits. Assumes nothing.
+-- A due record's next time is no later than now, so that the sum of its stamp and its wait fits.
 use mathlib.Core.Path.{_≡_, refl}
 use mathlib.Core.Bool.{Bool, true, false, _&&_}
 use Prim.Native.Nat.{ℕ, _+_, _-_, _≤_}

@@ -1,5 +1,4 @@
 -- One turn of the scan, and its end: a due place is the answer, a place that is not due leaves the answer to the places behind it.
--- Assumes nothing.
 use mathlib.Core.Path.{_≡_, refl}
 use mathlib.Core.Bool.{Bool, true, false, _&&_}
 use mathlib.Core.List.{List}
@@ -11,14 +10,14 @@ use Rattle.rules.specs.Names.{nowhere, placesPerPad}
 use Rattle.rules.specs.Hub.{pastButton}
 use Rattle.rules.specs.Repeat.{dueOf, firstDue}
 
-module _ (connected touched : List Bool) (buttons : List ButtonData) (after every now : ℕ) where
+module _ (connected hasbutton : List Bool) (buttons : List ButtonData) (after every now : ℕ) where
   -- whether a place is due, on a connected pad
   abbrev pub test : ℕ → Bool
-  test k = getD connected (k / placesPerPad) false && dueOf (getD touched k false) (getD buttons k pastButton) after every now
+  test k = getD connected (k / placesPerPad) false && dueOf (getD hasbutton k false) (getD buttons k pastButton) after every now
 
   -- what the places from k on give
   abbrev pub rest : ℕ → ℕ
-  rest k = firstDue connected touched buttons after every now (nowhere - k) k
+  rest k = firstDue connected hasbutton buttons after every now (nowhere - k) k
 
   pub hit : (k : ℕ) → k < nowhere → test k ≡ true → k ≡ rest k
   unfolding firstDue

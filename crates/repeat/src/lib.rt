@@ -62,7 +62,7 @@ pub fn repeated(
 // a due button of a connected pad
 fn due_at<'a>(
     connected: &'a [bool; 4],
-    touched: &'a [bool; 208],
+    hasbutton: &'a [bool; 208],
     b: ButtonData,
     after: u64,
     every: u64,
@@ -70,10 +70,10 @@ fn due_at<'a>(
     place: usize,
 ) -> bool
     requires { ⌜ place < 208 ⌝ }
-    ensures { λ r. ⌜ r ≡ (getD (now (connected .entry)) (place / 52) false && dueOf (getD (now (touched .entry)) place false) b after every clock) ⌝ }
+    ensures { λ r. ⌜ r ≡ (getD (now (connected .entry)) (place / 52) false && dueOf (getD (now (hasbutton .entry)) place false) b after every clock) ⌝ }
 {
     if connected[place / PLACES_PER_PAD] {
-        return due(b, touched[place], after, every, clock);
+        return due(b, hasbutton[place], after, every, clock);
     }
     false
 }
@@ -81,20 +81,20 @@ fn due_at<'a>(
 // "Connected pads by number, codes rising; the first due button": place order is that order. The records are a lent run, one for each place.
 fn scan<'a, 'b>(
     connected: &'a [bool; 4],
-    touched: &'a [bool; 208],
+    hasbutton: &'a [bool; 208],
     buttons: &'b [ButtonData],
     after: u64,
     every: u64,
     clock: u64,
 ) -> usize
     requires { ⌜ 208 ≤ length (now buttons) ⌝ }
-    ensures { λ r. ⌜ Scanned (now (connected .entry)) (now (touched .entry)) (now (buttons .entry)) after every clock r ⌝ }
+    ensures { λ r. ⌜ Scanned (now (connected .entry)) (now (hasbutton .entry)) (now (buttons .entry)) after every clock r ⌝ }
 {
     let mut place: usize = 0;
     while place < PLACES {
         if due_at(
             connected,
-            touched,
+            hasbutton,
             buttons[place],
             after,
             every,
@@ -111,13 +111,13 @@ fn scan<'a, 'b>(
 // the scan over the hub's button records, which are lent to it
 pub fn first_due<'a>(
     connected: &'a [bool; 4],
-    touched: &'a [bool; 208],
+    hasbutton: &'a [bool; 208],
     buttons: [ButtonData; 209],
     after: u64,
     every: u64,
     clock: u64,
 ) -> usize
-    ensures { λ r. ⌜ Scanned (now (connected .entry)) (now (touched .entry)) buttons after every clock r ⌝ }
+    ensures { λ r. ⌜ Scanned (now (connected .entry)) (now (hasbutton .entry)) buttons after every clock r ⌝ }
 {
-    scan(connected, touched, &buttons, after, every, clock)
+    scan(connected, hasbutton, &buttons, after, every, clock)
 }

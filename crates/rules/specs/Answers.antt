@@ -1,5 +1,5 @@
 -- For each case of each answer, document 01's number and values: 0 and the values where the call was served, the refusal's number where it was not.
--- Definitions only. Assumes nothing.
+-- Definitions only.
 use Prim.Native.Nat.{ℕ}
 use mathlib.Core.List.{List, [], _∷_}
 use mathlib.Core.Bool.{Bool, cond}

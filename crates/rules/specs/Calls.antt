@@ -1,5 +1,5 @@
 -- The public calls that change the hub, but the pump: new, register, rename, update, insert_event, inc and reset_counter. A refusal leaves the hub as it
--- was. Definitions only. Assumes nothing.
+-- was. Definitions only.
 use Prim.Native.Nat.{ℕ, zero, suc, _+_, _-_, _*_}
 use mathlib.Core.Bool.{Bool, true, false, cond, not}
 use mathlib.Core.List.{List, [], _∷_, map}
@@ -61,16 +61,16 @@ freshHub pressed released reversed filters updates =
       hats = replicate padLimit 0;
       converts = replicate padLimit false;
       renamed = replicate padLimit false;
-      rehats = replicate padLimit 0;
-      reconverts = replicate padLimit false;
+      newhats = replicate padLimit 0;
+      newconverts = replicate padLimit false;
       codes = replicate nowhere 0;
       kinds = replicate nowhere 0;
       names = replicate nowhere noName;
       renames = replicate nowhere noName;
       elements = replicate (nowhere + 1) noElement;
-      touched = replicate nowhere false;
+      hasbutton = replicate nowhere false;
       buttons = replicate (nowhere + 1) blankButton;
-      moved = replicate nowhere false;
+      hasaxis = replicate nowhere false;
       axes = replicate (nowhere + 1) blankAxis;
       flags = replicate (flagsPerPad * padLimit) false;
       queue = replicate queueRoom blankSlot;
@@ -123,7 +123,7 @@ registeredAt h p hats count rows =
     withSheet listed (p + 1) (set (h .counts) p count) (set (h .hats) p hats) (set (h .converts) p (convertsOf hats codes names p))
     in
     let stands = withMarks kept (set (h .connected) p true) (set (h .renamed) p false) in
-    let fresh = withState stands (clearedOf (h .touched) run placesPerPad) (h .buttons) (clearedOf (h .moved) run placesPerPad) (h .axes) in
+    let fresh = withState stands (clearedOf (h .hasbutton) run placesPerPad) (h .buttons) (clearedOf (h .hasaxis) run placesPerPad) (h .axes) in
     withFlags fresh (clearedOf (h .flags) (flagsPerPad * p) flagsPerPad)
 
 -- 2: "four pads stand"
@@ -156,7 +156,7 @@ renamesOf h p list = renamesAfter (h .renames) (h .kinds) list placesPerPad (pla
 unfoldable pub renamedAt : Hub → ℕ → List ℕ → Hub
 unfolding convertsOf
 renamedAt h p renames =
-    let named = withNames h (set (h .rehats) p 0) (set (h .reconverts) p (convertsOf 0 (h .codes) renames p)) renames in
+    let named = withNames h (set (h .newhats) p 0) (set (h .newconverts) p (convertsOf 0 (h .codes) renames p)) renames in
     withMarks named (h .connected) (set (h .renamed) p true)
 
 -- "Rename: 6, 7, 3, 4, 5"; 7: "rename of a disconnected pad"

@@ -1,5 +1,5 @@
 -- Events: their numbers, how one waits in the queue and comes back, its bytes, and what an event with others queued behind it is.
--- Definitions only. Assumes nothing.
+-- Definitions only.
 use Prim.Native.Nat.{ℕ, _%_}
 use mathlib.Core.Bool.{Bool, true, false, cond, not, _&&_}
 use mathlib.Core.List.{List, [], _∷_}

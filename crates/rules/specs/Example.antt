@@ -1,5 +1,5 @@
 -- Document 01's padlog example, end to end, as a run of the definitions: one axis element 0x00030010, name 39, -1..1, hats 0; values -1 at 100, 1 at 200.
--- Computed by the checker. Assumes nothing.
+-- Computed by the checker.
 use Prim.Native.Nat.{ℕ, _*_}
 use mathlib.Core.Path.{_≡_, refl}
 use mathlib.Core.Bool.{true, false}

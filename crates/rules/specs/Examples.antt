@@ -1,5 +1,5 @@
 -- Closed examples of the rules, computed by the checker: each shows a sentence of document 01, or a reading of it, on the smallest values that tell it
--- from a slip. One file for each file of definitions; a table of cases is one theorem. Assumes nothing.
+-- from a slip. One file for each file of definitions; a table of cases is one theorem.
 mod Table
 mod Names
 mod Forms

@@ -1,5 +1,5 @@
 -- The filters in their order, dpad, jitter, deadzone, on what each sees of the hub: 000's `axis_dpad_to_button`, `Jitter` and `deadzone`.
--- Definitions only. Assumes nothing.
+-- Definitions only.
 use Prim.Native.Nat.{ℕ, _+_}
 use mathlib.Core.Bool.{Bool, true, false, cond, not, _&&_}
 use mathlib.Core.List.{List, [], _∷_}

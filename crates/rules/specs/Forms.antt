@@ -1,5 +1,5 @@
 -- The byte forms of document 01, "ours, big-endian": fields, then sheets, raw records and events as bytes read and as bytes written.
--- Definitions only. Assumes nothing.
+-- Definitions only.
 use Prim.Native.Nat.{ℕ, zero, suc, _+_, _-_, _*_, _/_, _%_, _^_}
 use mathlib.Core.Bool.{Bool, true, false, cond, not, _&&_, _||_}
 use mathlib.Core.List.{List, [], _∷_, _++_}

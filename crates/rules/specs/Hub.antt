@@ -1,5 +1,5 @@
 -- What is read of the hub, and the queue of waiting events: a ring of 64 places, taken from the front without moving the others.
--- Everything is defined on any hub, whatever its fields hold; past an array's end stands what the lists below say. Definitions only. Assumes nothing.
+-- Everything is defined on any hub, whatever its fields hold; past an array's end stands what the lists below say. Definitions only.
 use Prim.Native.Nat.{ℕ, zero, suc, _+_, _-_, _*_, _%_}
 use mathlib.Core.Bool.{Bool, true, false, cond, not, _&&_, _||_}
 use mathlib.Core.List.{List, [], _∷_, _++_}
@@ -57,30 +57,30 @@ buttonAt h k = getD (h .buttons) k pastButton
 abbrev pub axisAt : Hub → ℕ → AxisData
 axisAt h k = getD (h .axes) k pastAxis
 
-abbrev pub touchedAt : Hub → ℕ → Bool
-touchedAt h k = getD (h .touched) k false
+abbrev pub hasButtonAt : Hub → ℕ → Bool
+hasButtonAt h k = getD (h .hasbutton) k false
 
-abbrev pub movedAt : Hub → ℕ → Bool
-movedAt h k = getD (h .moved) k false
+abbrev pub hasAxisAt : Hub → ℕ → Bool
+hasAxisAt h k = getD (h .hasaxis) k false
 
 unfoldable pub pressedAt : Hub → ℕ → Bool
 unfolding readPressed
-pressedAt h k = readPressed (touchedAt h k) (buttonAt h k)
+pressedAt h k = readPressed (hasButtonAt h k) (buttonAt h k)
 
 unfoldable pub valueAt : Hub → ℕ → Float
 unfolding readValue
-valueAt h k = readValue (movedAt h k) (axisAt h k) (touchedAt h k) (buttonAt h k)
+valueAt h k = readValue (hasAxisAt h k) (axisAt h k) (hasButtonAt h k) (buttonAt h k)
 
 -- ---- a pad's present hats, and whether it converts: a rename's until the next Connected
 
 unfoldable pub hatsNow : Hub → ℕ → ℕ
-hatsNow h p = cond (getD (h .renamed) p false) (getD (h .rehats) p 0) (getD (h .hats) p 0)
+hatsNow h p = cond (getD (h .renamed) p false) (getD (h .newhats) p 0) (getD (h .hats) p 0)
 
 unfoldable pub convertsIn : List Bool → List Bool → List Bool → ℕ → Bool
-convertsIn renamed converts reconverts p = cond (getD renamed p false) (getD reconverts p false) (getD converts p false)
+convertsIn renamed converts newconverts p = cond (getD renamed p false) (getD newconverts p false) (getD converts p false)
 
 abbrev pub convertsNow : Hub → ℕ → Bool
-convertsNow h p = convertsIn (h .renamed) (h .converts) (h .reconverts) p
+convertsNow h p = convertsIn (h .renamed) (h .converts) (h .newconverts) p
 
 -- ---- what the filters see for an event
 
@@ -113,7 +113,7 @@ viewAt h p n k =
       converts = convertsNow h p;
       positive = pressedAt h (hatPlace h p n (positiveCode n));
       negative = pressedAt h (hatPlace h p n (negativeCode n));
-      stored = movedAt h k;
+      stored = hasAxisAt h k;
       stick = axisAt h k .value;
       dead = eqb (kindAt h k) elementAxis;
       threshold = elementAt h k .threshold;

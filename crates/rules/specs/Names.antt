@@ -1,5 +1,5 @@
 -- Numbers and names, in the order of document 01's "Numbers": limits, directions, sorts of names, partners of axes, and the code that a button
--- name falls back to. Definitions only. Assumes nothing.
+-- name falls back to. Definitions only.
 use Prim.Native.Nat.{ℕ, _+_, _-_, _*_}
 use mathlib.Core.Bool.{Bool, true, false, cond, _&&_, _||_}
 use mathlib.Core.List.{List, [], _∷_}

@@ -1,6 +1,6 @@
 -- A pad's 52 places: where a code or a name stands, which names hold at present, how registration lays a sheet out in code order with the unlisted
 -- directions merged in, and when a pad converts. The lookup is a search and then a check, so that whatever the hub holds, a place that is found is the
--- pad's and has the code. Definitions only. Assumes nothing.
+-- pad's and has the code. Definitions only.
 use Prim.Native.Nat.{ℕ, zero, suc, _+_, _-_, _*_, _/_}
 use mathlib.Core.Bool.{Bool, true, false, cond, not, _&&_, _||_}
 use mathlib.Core.List.{List, [], _∷_, _++_}

@@ -1,4 +1,4 @@
--- The pump: steps until Drained, Full or Paused, or until a record is refused; and what it answers, writes and leaves. Definitions only. Assumes nothing.
+-- The pump: steps until Drained, Full or Paused, or until a record is refused; and what it answers, writes and leaves. Definitions only.
 use Prim.Native.Nat.{ℕ, zero, suc, _+_, _-_, _*_}
 use mathlib.Core.Bool.{Bool, true, false, cond, _&&_}
 use mathlib.Core.List.{List, [], _∷_, _++_}
@@ -6,7 +6,7 @@ use lib.ListN.{length, take, drop}
 use lib.Dec.{eqb, ltb}
 use Rattle.rules.specs.declared.Hub.{Hub}
 use Rattle.rules.specs.declared.Event.{Event}
-use Rattle.rules.specs.declared.Looked.{Looked}
+use Rattle.rules.specs.declared.NextRecord.{NextRecord}
 use Rattle.rules.specs.declared.Pumped.{Pumped}
 use Rattle.rules.specs.declared.PumpAnswer.{PumpAnswer}
 use Rattle.rules.specs.declared.PumpAnswer.the-variants as pumpAnswer
@@ -15,7 +15,7 @@ use Rattle.rules.specs.Refusals.{pumpRefusal}
 use Rattle.rules.specs.Places.{oneIf}
 use Rattle.rules.specs.Events.{eventBytes}
 use Rattle.rules.specs.Filters.{keptOf}
-use Rattle.rules.specs.Step.{lookedOf, stepRefusal, stepEvent, stepHub}
+use Rattle.rules.specs.Step.{nextRecordOf, stepRefusal, stepEvent, stepHub}
 
 -- where a pump stands: the hub, its place in the batch, the out buffer, the events written and the steps made
 pub record Progress : Type 0 where
@@ -62,10 +62,10 @@ verdictBy (suc why) refusal = stopping (suc why)
 
 -- left: what is left of the allowance
 unfoldable pub verdictOf : ℕ → List ℕ → Progress → Verdict
-unfolding stopOf stepRefusal lookedOf
+unfolding stopOf stepRefusal nextRecordOf
 verdictOf left s p =
     verdictBy (stopOf (p .hub .waiting) (length s - p .at) (length (p .out) - eventSize * p .events) left)
-    (stepRefusal (p .hub) (lookedOf (p .hub .waiting) s (p .at)))
+    (stepRefusal (p .hub) (nextRecordOf (p .hub .waiting) s (p .at)))
 
 -- ---- a step
 
@@ -78,7 +78,7 @@ outAfter out n e = take (eventSize * n) out ++ (eventBytes e ++ drop eventSize (
 unfoldable pub placeAfter : ℕ → ℕ → ℕ
 placeAfter waiting at = cond (ltb 0 waiting) at (at + recordSize)
 
-unfoldable pub steppedBy : Progress → Looked → Progress
+unfoldable pub steppedBy : Progress → NextRecord → Progress
 unfolding stepHub stepEvent placeAfter outAfter keptOf
 steppedBy p l =
     record {
@@ -90,8 +90,8 @@ steppedBy p l =
     }
 
 unfoldable pub stepped : List ℕ → Progress → Progress
-unfolding steppedBy lookedOf
-stepped s p = steppedBy p (lookedOf (p .hub .waiting) s (p .at))
+unfolding steppedBy nextRecordOf
+stepped s p = steppedBy p (nextRecordOf (p .hub .waiting) s (p .at))
 
 -- ---- the run
 

@@ -1,5 +1,4 @@
 -- The queries: they read the hub and change nothing. "Query: 6, 16"; "A query by a code not known reads false or 0.0". Definitions only.
--- Assumes nothing.
 use Prim.Native.Nat.{ℕ, zero, suc}
 use mathlib.Core.Bool.{Bool, true, false, cond}
 use mathlib.Core.List.{List}
@@ -24,7 +23,7 @@ use Rattle.rules.specs.Names.{nowhere, noName, toNec}
 use Rattle.rules.specs.Sheets.{elementAxis}
 use Rattle.rules.specs.Places.{placeOf, namedOf, presentNames}
 use Rattle.rules.specs.Refusals.{standsOf, unlessFits, buttonQueryRefusal, axisQueryRefusal, nameQueryRefusal}
-use Rattle.rules.specs.Hub.{placeIn, namesIn, nameIn, kindAt, elementAt, buttonAt, axisAt, touchedAt, movedAt, pressedAt, valueAt}
+use Rattle.rules.specs.Hub.{placeIn, namesIn, nameIn, kindAt, elementAt, buttonAt, axisAt, hasButtonAt, hasAxisAt, pressedAt, valueAt}
 
 -- 6 alone: a query by a code, or by a pad
 abbrev pub padRefusal : Hub → ℕ → ℕ
@@ -91,11 +90,11 @@ buttonBy (suc number) here b = buttonAnswer.Refused (suc number)
 
 unfoldable pub buttonByCode : Hub → ℕ → ℕ → ButtonAnswer
 unfolding standsOf placeOf
-buttonByCode h p c = buttonBy (padRefusal h p) (touchedAt h (placeIn h p c)) (buttonAt h (placeIn h p c))
+buttonByCode h p c = buttonBy (padRefusal h p) (hasButtonAt h (placeIn h p c)) (buttonAt h (placeIn h p c))
 
 unfoldable pub buttonByName : Hub → ℕ → ℕ → ButtonAnswer
 unfolding buttonQueryRefusal namedOf presentNames
-buttonByName h p n = buttonBy (buttonQueryRefusal (h .pads) p n) (touchedAt h (namedIn h p n)) (buttonAt h (namedIn h p n))
+buttonByName h p n = buttonBy (buttonQueryRefusal (h .pads) p n) (hasButtonAt h (namedIn h p n)) (buttonAt h (namedIn h p n))
 
 abbrev pub axisBy : ℕ → Bool → AxisData → AxisAnswer
 axisBy zero true a = axisAnswer.Data a
@@ -104,11 +103,11 @@ axisBy (suc number) here a = axisAnswer.Refused (suc number)
 
 unfoldable pub axisByCode : Hub → ℕ → ℕ → AxisAnswer
 unfolding standsOf placeOf
-axisByCode h p c = axisBy (padRefusal h p) (movedAt h (placeIn h p c)) (axisAt h (placeIn h p c))
+axisByCode h p c = axisBy (padRefusal h p) (hasAxisAt h (placeIn h p c)) (axisAt h (placeIn h p c))
 
 unfoldable pub axisByName : Hub → ℕ → ℕ → AxisAnswer
 unfolding axisQueryRefusal namedOf presentNames
-axisByName h p n = axisBy (axisQueryRefusal (h .pads) p n) (movedAt h (namedIn h p n)) (axisAt h (namedIn h p n))
+axisByName h p n = axisBy (axisQueryRefusal (h .pads) p n) (hasAxisAt h (namedIn h p n)) (axisAt h (namedIn h p n))
 
 -- ---- names and codes
 

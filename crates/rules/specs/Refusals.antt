@@ -1,12 +1,12 @@
 -- "Refusals by number": each as a condition, and the order in which a record, an event and the settings are judged. 0 is no refusal. The sheet's
--- own refusals stand in Sheets. Definitions only. Assumes nothing.
+-- own refusals stand in Sheets. Definitions only.
 use Prim.Native.Nat.{ℕ, _+_, _%_}
 use mathlib.Core.Bool.{Bool, true, false, cond, not, _&&_, _||_}
 use lib.Dec.{eqb, ltb, leb}
 use lib.Ieee.{Float, lt, le}
 use Rattle.numbers.specs.Constants.{zero32, one32, withinOf}
 use Rattle.rules.specs.declared.RawRecord.{RawRecord}
-use Rattle.rules.specs.declared.Looked.{Looked}
+use Rattle.rules.specs.declared.NextRecord.{NextRecord}
 use Rattle.rules.specs.declared.EventForm.{EventForm}
 use Rattle.rules.specs.Names.{padLimit, nowhere, lastTime, lastWait, bufferLimit, insertLimit, namesButton, namesAxis}
 use Rattle.rules.specs.Forms.{kindAxis, eventAxis}
@@ -59,7 +59,7 @@ fieldsRefusal r pads kind =
     (first (unlessFits (withinOf (r .value)) 11) (unlessFits (timeFits (r .time)) 12)))
 
 -- 8 first, then what the fields say
-unfoldable pub recordRefusal : Looked → ℕ → ℕ → ℕ
+unfoldable pub recordRefusal : NextRecord → ℕ → ℕ → ℕ
 unfolding fieldsRefusal
 recordRefusal l pads kind = first (unlessFits (l .fits) 8) (fieldsRefusal (l .raw) pads kind)
 

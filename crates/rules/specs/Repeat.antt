@@ -1,4 +1,4 @@
--- Repeat: 000's `Repeat`, with the clock as input and the order fixed: connected pads by number, codes rising. Definitions only. Assumes nothing.
+-- Repeat: 000's `Repeat`, with the clock as input and the order fixed: connected pads by number, codes rising. Definitions only.
 use Prim.Native.Nat.{ℕ, zero, suc, _+_, _-_, _*_, _/_}
 use mathlib.Core.Bool.{Bool, true, false, cond, _&&_}
 use mathlib.Core.List.{List}
@@ -28,11 +28,11 @@ dueOf known b after every now = known && (b .pressed && (leb (b .stamp) now && l
 -- the first due of the n places from k on; place order is pads by number and codes rising
 unfoldable pub firstDue : List Bool → List Bool → List ButtonData → ℕ → ℕ → ℕ → ℕ → ℕ → ℕ
 unfolding dueOf
-firstDue connected touched buttons after every now zero k = nowhere
-firstDue connected touched buttons after every now (suc n) k =
-    cond (getD connected (k / placesPerPad) false && dueOf (getD touched k false) (getD buttons k pastButton) after every now)
+firstDue connected hasbutton buttons after every now zero k = nowhere
+firstDue connected hasbutton buttons after every now (suc n) k =
+    cond (getD connected (k / placesPerPad) false && dueOf (getD hasbutton k false) (getD buttons k pastButton) after every now)
     k
-    (firstDue connected touched buttons after every now n (k + 1))
+    (firstDue connected hasbutton buttons after every now n (k + 1))
 
 -- "The time is its stamp plus after or every"; "The name is the code's present button name, else Unknown"
 unfoldable pub repeatedOf : ℕ → ℕ → ℕ → ButtonData → ℕ → ℕ → Event
@@ -46,7 +46,7 @@ repeatedAt h k after every =
 
 unfoldable pub duePlace : Hub → ℕ → ℕ → ℕ → ℕ
 unfolding firstDue
-duePlace h after every now = firstDue (h .connected) (h .touched) (h .buttons) after every now nowhere 0
+duePlace h after every now = firstDue (h .connected) (h .hasbutton) (h .buttons) after every now nowhere 0
 
 abbrev pub repeatBy : ℕ → Bool → Event → RepeatAnswer
 repeatBy zero true e = repeatAnswer.Due e

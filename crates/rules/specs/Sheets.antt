@@ -1,4 +1,4 @@
--- Pad sheets: their bytes read, and what refuses them, 3, 4 and 5 in that order. Definitions only. Assumes nothing.
+-- Pad sheets: their bytes read, and what refuses them, 3, 4 and 5 in that order. Definitions only.
 use Prim.Native.Nat.{ℕ, zero, suc, _+_, _-_, _*_}
 use mathlib.Core.Bool.{Bool, true, false, cond, not, _&&_, _||_}
 use mathlib.Core.List.{List, [], _∷_, _++_}

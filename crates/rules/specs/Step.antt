@@ -11,7 +11,7 @@ use Rattle.rules.specs.declared.Event.{Event}
 use Rattle.rules.specs.declared.RawRecord.{RawRecord}
 use Rattle.rules.specs.declared.RecordRead.{RecordRead}
 use Rattle.rules.specs.declared.RecordRead.the-variants as recordRead
-use Rattle.rules.specs.declared.Looked.{Looked}
+use Rattle.rules.specs.declared.NextRecord.{NextRecord}
 use Rattle.rules.specs.declared.Dispatched.{Dispatched}
 use Rattle.rules.specs.declared.Flags.{Flags}
 use Rattle.rules.specs.declared.Gives.{Gives}
@@ -25,21 +25,21 @@ use Rattle.rules.specs.Dispatch.{dispatchOf, single}
 use Rattle.rules.specs.Filters.{filteredOf}
 use Rattle.rules.specs.State.{buttonAfter, axisAfter, writesButton, writesAxis}
 use Rattle.rules.specs.Setters.{withMarks, withState, withFlags, withQueue}
-use Rattle.rules.specs.Hub.{placeIn, nameIn, kindAt, elementAt, buttonAt, axisAt, touchedAt, movedAt, pressedAt, frontOf, flagPlace, viewOf, queueAfter, waitingAfter}
+use Rattle.rules.specs.Hub.{placeIn, nameIn, kindAt, elementAt, buttonAt, axisAt, hasButtonAt, hasAxisAt, pressedAt, frontOf, flagPlace, viewOf, queueAfter, waitingAfter}
 
 -- ---- the record looked at
 
 abbrev pub blankRecord : RawRecord
 blankRecord = record { kind = 0; pad = 0; code = 0; value = pos 0; time = 0 }
 
-abbrev pub lookedBy : RecordRead → Looked
-lookedBy (recordRead.Record r) = record { raw = r; fits = true }
-lookedBy recordRead.Malformed = record { raw = blankRecord; fits = false }
+abbrev pub nextRecordBy : RecordRead → NextRecord
+nextRecordBy (recordRead.Record r) = record { raw = r; fits = true }
+nextRecordBy recordRead.Malformed = record { raw = blankRecord; fits = false }
 
 -- while something waits, no record is looked at
-unfoldable pub lookedOf : ℕ → List ℕ → ℕ → Looked
+unfoldable pub nextRecordOf : ℕ → List ℕ → ℕ → NextRecord
 unfolding readRecord
-lookedOf waiting s at = cond (ltb 0 waiting) (record { raw = blankRecord; fits = true }) (lookedBy (readRecord s at))
+nextRecordOf waiting s at = cond (ltb 0 waiting) (record { raw = blankRecord; fits = true }) (nextRecordBy (readRecord s at))
 
 -- the kind of the element that has the record's code
 unfoldable pub recordKind : Hub → RawRecord → ℕ
@@ -47,7 +47,7 @@ unfolding placeOf
 recordKind h r = kindAt h (placeIn h (r .pad) (r .code))
 
 -- the record's refusal, 0 where it is taken, or where something waits
-unfoldable pub stepRefusal : Hub → Looked → ℕ
+unfoldable pub stepRefusal : Hub → NextRecord → ℕ
 unfolding recordRefusal recordKind
 stepRefusal h l = cond (ltb 0 (h .waiting)) 0 (recordRefusal l (h .pads) (recordKind h (l .raw)))
 
@@ -58,7 +58,7 @@ unfolding dispatchOf presentNames pressedAt
 recordGives h r k =
     dispatchOf r (nameIn h (r .pad) k) (elementAt h k) (pressedAt h k) (h .pressed) (h .released) (h .reversed)
 
-unfoldable pub takenOf : Hub → Looked → Dispatched
+unfoldable pub takenOf : Hub → NextRecord → Dispatched
 unfolding recordGives frontOf placeOf
 takenOf h l = cond (ltb 0 (h .waiting)) (single (frontOf h)) (recordGives h (l .raw) (placeIn h (l .raw .pad) (l .raw .code)))
 
@@ -73,21 +73,21 @@ unfoldable pub renamedAfter : List Bool → ℕ → ℕ → List Bool
 renamedAfter renamed p kind = cond (eqb kind kindConnected) (set renamed p false) renamed
 
 -- how many marks of a run Connected takes off
-unfoldable pub joinRun : ℕ → ℕ → ℕ
-joinRun kind n = cond (eqb kind kindConnected) n 0
+unfoldable pub marksCleared : ℕ → ℕ → ℕ
+marksCleared kind n = cond (eqb kind kindConnected) n 0
 
 -- the ring's front after a step took it
 unfoldable pub headAfter : ℕ → ℕ → ℕ
 headAfter head waiting = cond (ltb 0 waiting) ((head % queueRoom + 1) % queueRoom) head
 
 unfoldable pub markedOf : Hub → RawRecord → Hub
-unfolding connectedAfter renamedAfter joinRun headAfter clearedOf
+unfolding connectedAfter renamedAfter marksCleared headAfter clearedOf
 markedOf h r =
     let joined = withMarks h (connectedAfter (h .connected) (r .pad) (r .kind)) (renamedAfter (h .renamed) (r .pad) (r .kind)) in
     let run = placesPerPad * r .pad in
-    let places = joinRun (r .kind) placesPerPad in
-    let fresh = withState joined (clearedOf (h .touched) run places) (h .buttons) (clearedOf (h .moved) run places) (h .axes) in
-    let unflagged = withFlags fresh (clearedOf (h .flags) (flagsPerPad * r .pad) (joinRun (r .kind) flagsPerPad)) in
+    let places = marksCleared (r .kind) placesPerPad in
+    let fresh = withState joined (clearedOf (h .hasbutton) run places) (h .buttons) (clearedOf (h .hasaxis) run places) (h .axes) in
+    let unflagged = withFlags fresh (clearedOf (h .flags) (flagsPerPad * r .pad) (marksCleared (r .kind) flagsPerPad)) in
     withQueue unflagged (h .queue) (headAfter (h .head) (h .waiting)) (h .waiting - 1)
 
 -- ---- what waits behind the event: the record's own, then the filters'
@@ -112,9 +112,9 @@ pushedOf h e f es =
 unfoldable pub updatedAt : Bool → Hub → Event → ℕ → Hub
 unfolding buttonAfter axisAfter writesButton writesAxis
 updatedAt on h e k =
-    withState h (set (h .touched) k (touchedAt h k || (on && writesButton e)))
-    (set (h .buttons) k (cond on (buttonAfter e (touchedAt h k) (buttonAt h k) (h .counter)) (buttonAt h k)))
-    (set (h .moved) k (movedAt h k || (on && writesAxis e)))
+    withState h (set (h .hasbutton) k (hasButtonAt h k || (on && writesButton e)))
+    (set (h .buttons) k (cond on (buttonAfter e (hasButtonAt h k) (buttonAt h k) (h .counter)) (buttonAt h k)))
+    (set (h .hasaxis) k (hasAxisAt h k || (on && writesAxis e)))
     (set (h .axes) k (cond on (axisAfter e (axisAt h k) (h .counter)) (axisAt h k)))
 
 unfoldable pub updatedOf : Bool → Hub → Event → Hub
@@ -129,15 +129,15 @@ unfolding filteredOf viewOf
 filteredIn h e = filteredOf (h .filters) (viewOf h e) e
 
 -- what is taken, filtered and queued: the hub before its state is updated
-unfoldable pub turnedOf : Hub → Dispatched → Hub
+unfoldable pub filteredHub : Hub → Dispatched → Hub
 unfolding pushedOf pushesOf filteredIn
-turnedOf h d = pushedOf h (d .event) (filteredIn h (d .event) .flags) (pushesOf d (filteredIn h (d .event) .gives))
+filteredHub h d = pushedOf h (d .event) (filteredIn h (d .event) .flags) (pushesOf d (filteredIn h (d .event) .gives))
 
 -- the event that a step hands on, or Dropped
-unfoldable pub stepEvent : Hub → Looked → Event
+unfoldable pub stepEvent : Hub → NextRecord → Event
 unfolding filteredIn markedOf takenOf
 stepEvent h l = filteredIn (markedOf h (l .raw)) (takenOf h l .event) .gives .event
 
-unfoldable pub stepHub : Hub → Looked → Hub
-unfolding updatedOf turnedOf markedOf takenOf stepEvent
-stepHub h l = updatedOf (h .updates) (turnedOf (markedOf h (l .raw)) (takenOf h l)) (stepEvent h l)
+unfoldable pub stepHub : Hub → NextRecord → Hub
+unfolding updatedOf filteredHub markedOf takenOf stepEvent
+stepHub h l = updatedOf (h .updates) (filteredHub (markedOf h (l .raw)) (takenOf h l)) (stepEvent h l)

@@ -91,7 +91,7 @@ pub enum RecordRead {
 }
 
 // The record that a step looks at: where the queue still holds something, or the record is malformed, a blank one.
-pub struct Looked {
+pub struct NextRecord {
     pub raw: RawRecord,
     pub fits: bool,
 }
@@ -160,8 +160,8 @@ pub struct AxisData {
 }
 
 // The hub. A pad has 52 places in code order, pad p the places 52 p to 52 p + 51; place 208 is no pad's, and stands for a code that is not there.
-// `hats`, `converts` and `names` are the registered sheet's; where a pad is `renamed`, the columns `rehats`, `reconverts` and `renames` hold
-// instead. A place has a button record where it is `touched`, and an axis record where it is `moved`.
+// `hats`, `converts` and `names` are the registered sheet's; where a pad is `renamed`, the columns `newhats`, `newconverts` and `renames` hold
+// instead. A place has a button record where it is `hasbutton`, and an axis record where it is `hasaxis`.
 pub struct Hub {
     pub pressed: f32,
     pub released: f32,
@@ -175,16 +175,16 @@ pub struct Hub {
     pub hats: [u8; 4],
     pub converts: [bool; 4],
     pub renamed: [bool; 4],
-    pub rehats: [u8; 4],
-    pub reconverts: [bool; 4],
+    pub newhats: [u8; 4],
+    pub newconverts: [bool; 4],
     pub codes: [u32; 208],
     pub kinds: [u8; 208],
     pub names: [u8; 208],
     pub renames: [u8; 208],
     pub elements: [Element; 209],
-    pub touched: [bool; 208],
+    pub hasbutton: [bool; 208],
     pub buttons: [ButtonData; 209],
-    pub moved: [bool; 208],
+    pub hasaxis: [bool; 208],
     pub axes: [AxisData; 209],
     pub flags: [bool; 24],
     pub queue: [Slot; 64],

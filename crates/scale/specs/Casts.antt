@@ -1,5 +1,5 @@
 -- 01's limits make every cast exact: a number inside them is read back from an `i32` as it is, and the cast to f32 keeps it; and no difference of two wraps.
--- Stated over plain numbers, for the proofs of every function that casts. Assumes nothing.
+-- Stated over plain numbers, for the proofs of every function that casts.
 use mathlib.Core.Path.{_≡_, sym, ap, subst}
 use mathlib.Core.Bool.{Bool, true, false, cond, _||_}
 use Prim.Native.Nat.{ℕ, zero, suc, _+_, _-_, _/_, _≤_, _<_}

@@ -1,4 +1,4 @@
--- What each test of an element says of the definitions, over the element and plain numbers. Assumes nothing.
+-- What each test of an element says of the definitions, over the element and plain numbers.
 use mathlib.Core.Path.{_≡_, refl, sym}
 use mathlib.Core.Bool.{Bool, true, false, _||_}
 use Prim.Native.Nat.{_<_, _≤_}

@@ -1,4 +1,4 @@
--- The order of a sheet's and a rename list's refusals: the first of the numbers that there are is what the definitions choose. Assumes nothing.
+-- The order of a sheet's and a rename list's refusals: the first of the numbers that there are is what the definitions choose.
 use mathlib.Core.Path.{_≡_, refl}
 use mathlib.Core.Bool.{Bool, true, false, cond, not, _||_}
 use Rattle.rules.specs.Refusals.{first, unlessFits}

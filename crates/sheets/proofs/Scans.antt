@@ -1,6 +1,5 @@
 -- A scan of what is left: a definition that tests the i-th of count things and goes on with the next is, at each turn of a loop, what the loop has
 -- still to answer. One law for scans that stop at the first that fails, one for scans that stop at the first that holds; then the scans of a sheet.
--- Assumes nothing.
 use mathlib.Core.Path.{_≡_, refl, sym, _∙_, ap}
 use mathlib.Core.Bool.{Bool, true, false, not, _&&_, _||_}
 use mathlib.Core.List.{List}

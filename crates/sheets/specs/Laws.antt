@@ -1,5 +1,5 @@
 -- What a sheet or a rename list that is not refused has: its size, its count, its hats, elements that each keep to the rules, names that stand
--- once. Registration and rename go by these. Assumes nothing.
+-- once. Registration and rename go by these.
 use mathlib.Core.Path.{_≡_, refl, subst}
 use mathlib.Core.Bool.{Bool, true, false, cond, not, _&&_, _||_, true≢false, false≢true}
 use mathlib.Core.Logic.{_⊎_, inl, inr, ⊎-elim}

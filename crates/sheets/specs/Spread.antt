@@ -1,5 +1,5 @@
 -- Names that stand in a list of bytes at start, start + stride, ..: that the bytes are there, and that the i-th of them stands again behind it.
--- Definitions only. Assumes nothing.
+-- Definitions only.
 use Prim.Native.Nat.{ℕ, _+_, _-_, _*_, _<_}
 use mathlib.Core.Bool.{Bool, not, _&&_}
 use mathlib.Core.List.{List}

@@ -1,5 +1,5 @@
 -- The deadzone gives no sign: where x is proper, its answer is. Inside it is 0.0, and outside it is x times a factor that has no sign, since the magnitude is
--- above the threshold and at most 1. Assumes nothing.
+-- above the threshold and at most 1.
 use mathlib.Core.Path.{_≡_, refl, sym}
 use mathlib.Core.Bool.{Bool, true, false}
 use Prim.Native.Nat.{ℕ, _*_}

@@ -1,5 +1,5 @@
 -- Values of binary32 without the sign, and that two of them which compare as equal are one value. (Of all values only 0.0 and -0.0 are equal and differ.)
--- The idea: equal fractions have the same bits, and a value of the format is what its bits say. Assumes nothing.
+-- The idea: equal fractions have the same bits, and a value of the format is what its bits say.
 use mathlib.Core.Path.{_≡_, refl, sym, ap, _∙_}
 use mathlib.Core.Bool.{Bool, true, false, _&&_, cond, false≢true}
 use Prim.Native.Nat.{ℕ, _+_, _-_, _*_, _/_, _^_}

@@ -1,6 +1,6 @@
 -- A trigger's values are proper: the one that scaling gives, and that after the deadzone, for a min below a max inside 01's limits, a raw value inside them
 -- and any deadzone. From min up nothing has the sign (raw = min gives +0.0). Below min the quotient is 2 ^ -24 at least in size, so it does not round to -0.0,
--- which `clampOf` would let by, and is held to 0.0. Assumes nothing.
+-- which `clampOf` would let by, and is held to 0.0.
 use mathlib.Core.Path.{_≡_, refl, sym, ap, _∙_, subst}
 use mathlib.Core.Bool.{Bool, true, false, cond, false≢true}
 use Prim.Native.Nat.{ℕ, zero, suc, _+_, _-_, _*_, _^_, _≤_, _<_}

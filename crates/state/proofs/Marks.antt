@@ -1,4 +1,4 @@
--- A mark that only a known record has: the code asks `known` first, the law book writes "and". Assumes nothing.
+-- A mark that only a known record has: the code asks `known` first, the law book writes "and".
 use mathlib.Core.Path.{_≡_, refl}
 use mathlib.Core.Bool.{Bool, true, false, cond, _&&_}
 

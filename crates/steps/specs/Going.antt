@@ -1,4 +1,4 @@
--- What holds whenever the heads of the pump's loops are reached; `whole` is the run that they are to leave. Assumes nothing.
+-- What holds whenever the heads of the pump's loops are reached; `whole` is the run that they are to leave.
 use Prim.Native.Nat.{ℕ, _+_, _*_, _≤_}
 use mathlib.Core.Path.{_≡_}
 use mathlib.Core.List.{List}

@@ -1,4 +1,4 @@
--- The out buffer once the part that was lent to the writer is back: the definition's buffer, of the same length. Assumes nothing.
+-- The out buffer once the part that was lent to the writer is back: the definition's buffer, of the same length.
 use Prim.Native.Nat.{ℕ, _+_, _-_, _*_, _≤_}
 use mathlib.Core.Path.{_≡_, refl, sym, _∙_}
 use mathlib.Core.List.{List, _++_, append-nil}

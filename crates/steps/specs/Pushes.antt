@@ -1,4 +1,4 @@
--- The events that a turn pushes, one by one: a hub with more events waiting, one event more, and none left. Assumes nothing.
+-- The events that a turn pushes, one by one: a hub with more events waiting, one event more, and none left.
 use Prim.Native.Nat.{ℕ, _+_, _≤_, _<_}
 use mathlib.Core.Path.{_≡_, _∙_}
 use mathlib.Core.List.{List, _∷_}

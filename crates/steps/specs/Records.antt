@@ -1,4 +1,4 @@
--- What holds of a record that a step takes: its value is in 01's limits, and it lies whole in the batch. By the refusal that is 0. Assumes nothing.
+-- What holds of a record that a step takes: its value is in 01's limits, and it lies whole in the batch. By the refusal that is 0.
 use Prim.Native.Nat.{ℕ, zero, suc, _+_, _-_, _≤_, _<_}
 use mathlib.Core.Path.{_≡_, refl, sym, _∙_, ap}
 use mathlib.Core.Bool.{Bool, true, false, cond, _&&_}
@@ -8,16 +8,16 @@ use lib.Dec.{eqb, ltb, leb}
 use native.Mathlib.Omega.{arith}
 use borrow.Author.Tests.{leb-true, eqb-true, eqb-false}
 use Rattle.numbers.specs.Constants.{withinOf}
-use Rattle.rules.specs.declared.Looked.{Looked}
+use Rattle.rules.specs.declared.NextRecord.{NextRecord}
 use Rattle.rules.specs.declared.RawRecord.{RawRecord}
 use Rattle.rules.specs.Forms.{recordSize, recordFits, recordFields, readRecord, pickRecord}
 use Rattle.rules.specs.Refusals.{recordRefusal, fieldsRefusal, elementRefusal, standsOf, timeFits, first, unlessFits}
 use Rattle.rules.specs.Places.{placeOf}
-use Rattle.rules.specs.Step.{lookedOf, lookedBy, recordKind, stepRefusal}
+use Rattle.rules.specs.Step.{nextRecordOf, nextRecordBy, recordKind, stepRefusal}
 use Rattle.rules.specs.Pump.{placeAfter}
 use Rattle.rules.specs.declared.Hub.{Hub}
 use Rattle.gather.specs.declared.Found.{Found}
-use Rattle.gather.specs.Sight.{foundAt}
+use Rattle.gather.specs.EventPlaces.{foundAt}
 
 -- where the first of two numbers is none, both are none
 none-by : (t : Bool) (a b : ℕ) → eqb a 0 ≡ t → cond t b a ≤ 0 → (a ≤ 0) × (b ≤ 0)
@@ -32,7 +32,7 @@ fits-unless true number p h = refl
 fits-unless false number p h = absurd (omega arith)
 
 -- a record that is not refused fits, and its value is in the limits
-pub record Taken (l : Looked) : Type 0 where
+pub record Taken (l : NextRecord) : Type 0 where
   pub fits : l .fits ≡ true
   pub within : withinOf (l .raw .value) ≡ true
 
@@ -43,28 +43,28 @@ all-none a b c d e h =
     let three = none-first c (first d e) (two .1) in
     (one .0, none-first d e (three .1) .0)
 
-taken : (l : Looked) (pads kind : ℕ) → recordRefusal l pads kind ≤ 0 → Taken l
+taken : (l : NextRecord) (pads kind : ℕ) → recordRefusal l pads kind ≤ 0 → Taken l
 unfolding recordRefusal fieldsRefusal
 taken l pads kind h =
     let n = all-none (unlessFits (l .fits) 8) (unlessFits (standsOf pads (l .raw .pad)) 6) (elementRefusal (l .raw .kind) kind) (unlessFits (withinOf (l .raw .value)) 11) (unlessFits (timeFits (l .raw .time)) 12) h in
     record { fits = fits-unless (l .fits) 8 (omega arith) (n .0); within = fits-unless (withinOf (l .raw .value)) 11 (omega arith) (n .1) }
 
 -- the step's refusal, as the code has it
-abbrev refusalBy : Bool → Looked → ℕ → ℕ → ℕ
+abbrev refusalBy : Bool → NextRecord → ℕ → ℕ → ℕ
 refusalBy waits l pads kind = cond waits 0 (recordRefusal l pads kind)
 
-looked-within : (waits : Bool) (r : Looked) (pads kind : ℕ) (blank : Looked) → withinOf (blank .raw .value) ≡ true → refusalBy waits (cond waits blank r) pads kind ≤ 0 → withinOf (cond waits blank r .raw .value) ≡ true
+looked-within : (waits : Bool) (r : NextRecord) (pads kind : ℕ) (blank : NextRecord) → withinOf (blank .raw .value) ≡ true → refusalBy waits (cond waits blank r) pads kind ≤ 0 → withinOf (cond waits blank r .raw .value) ≡ true
 looked-within true r pads kind blank e h = e
 looked-within false r pads kind blank e h = taken r pads kind h .within
 
 -- what is taken can be scaled
-pub taken-within : (waiting : ℕ) (s : List ℕ) (at pads kind : ℕ) {l : Looked} {number : ℕ} → l ≡ lookedOf waiting s at → number ≡ cond (ltb 0 waiting) 0 (recordRefusal l pads kind) → number ≤ 0 → withinOf (l .raw .value) ≡ true
-unfolding lookedOf withinOf
-taken-within waiting s at pads kind el en z = rw el (looked-within (ltb 0 waiting) (lookedBy (readRecord s at)) pads kind _ refl (rw el at (rw en at z)))
+pub taken-within : (waiting : ℕ) (s : List ℕ) (at pads kind : ℕ) {l : NextRecord} {number : ℕ} → l ≡ nextRecordOf waiting s at → number ≡ cond (ltb 0 waiting) 0 (recordRefusal l pads kind) → number ≤ 0 → withinOf (l .raw .value) ≡ true
+unfolding nextRecordOf withinOf
+taken-within waiting s at pads kind el en z = rw el (looked-within (ltb 0 waiting) (nextRecordBy (readRecord s at)) pads kind _ refl (rw el at (rw en at z)))
 
 -- ---- the place after a step lies in the batch
 
-fits-by : (b : Bool) (r : RawRecord) → lookedBy (pickRecord b r) .fits ≡ b
+fits-by : (b : Bool) (r : RawRecord) → nextRecordBy (pickRecord b r) .fits ≡ b
 fits-by true r = refl
 fits-by false r = refl
 
@@ -72,28 +72,28 @@ both-true : (a b : Bool) → (a && b) ≡ true → a ≡ true
 both-true true b e = refl
 both-true false b e = e
 
-whole : (s : List ℕ) (at : ℕ) → lookedBy (readRecord s at) .fits ≡ true → recordSize ≤ length s - at
+whole : (s : List ℕ) (at : ℕ) → nextRecordBy (readRecord s at) .fits ≡ true → recordSize ≤ length s - at
 unfolding readRecord recordFits
 whole s at e = leb-true recordSize (length s - at) (both-true _ _ (sym (fits-by (recordFits s at) (recordFields s at)) ∙ e))
 
-place-by : (waits : Bool) (s : List ℕ) (at pads kind : ℕ) (blank : Looked) → at ≤ length s → refusalBy waits (cond waits blank (lookedBy (readRecord s at))) pads kind ≤ 0 → cond waits at (at + recordSize) ≤ length s
+place-by : (waits : Bool) (s : List ℕ) (at pads kind : ℕ) (blank : NextRecord) → at ≤ length s → refusalBy waits (cond waits blank (nextRecordBy (readRecord s at))) pads kind ≤ 0 → cond waits at (at + recordSize) ≤ length s
 place-by true s at pads kind blank h z = h
-place-by false s at pads kind blank h z = let w = whole s at (taken (lookedBy (readRecord s at)) pads kind z .fits) in omega arith
+place-by false s at pads kind blank h z = let w = whole s at (taken (nextRecordBy (readRecord s at)) pads kind z .fits) in omega arith
 
-pub place-small : (waiting : ℕ) (s : List ℕ) (at pads kind : ℕ) {l : Looked} {number place : ℕ} → l ≡ lookedOf waiting s at → number ≡ cond (ltb 0 waiting) 0 (recordRefusal l pads kind) → number ≤ 0 → place ≡ placeAfter waiting at → at ≤ length s → place ≤ length s
-unfolding lookedOf placeAfter
+pub place-small : (waiting : ℕ) (s : List ℕ) (at pads kind : ℕ) {l : NextRecord} {number place : ℕ} → l ≡ nextRecordOf waiting s at → number ≡ cond (ltb 0 waiting) 0 (recordRefusal l pads kind) → number ≤ 0 → place ≡ placeAfter waiting at → at ≤ length s → place ≤ length s
+unfolding nextRecordOf placeAfter
 place-small waiting s at pads kind el en z ep h = rw ep (place-by (ltb 0 waiting) s at pads kind _ h (rw el at (rw en at z)))
 
 -- ---- the refusal that the code worked out is the step's
 
 pub refusal-is :
-    (h : Hub) (s : List ℕ) (at : ℕ) {l : Looked} {found : Found} {number : ℕ} →
-    l ≡ lookedOf (h .waiting) s at →
-    found ≡ foundAt (h .kinds) (h .names) (h .renames) (h .renamed) (h .touched) (l .raw .pad) (placeOf (h .codes) (l .raw .pad) (l .raw .code)) →
+    (h : Hub) (s : List ℕ) (at : ℕ) {l : NextRecord} {found : Found} {number : ℕ} →
+    l ≡ nextRecordOf (h .waiting) s at →
+    found ≡ foundAt (h .kinds) (h .names) (h .renames) (h .renamed) (h .hasbutton) (l .raw .pad) (placeOf (h .codes) (l .raw .pad) (l .raw .code)) →
     number ≡ cond (ltb 0 (h .waiting)) 0 (recordRefusal l (h .pads) (found .kind)) →
-    number ≡ stepRefusal h (lookedOf (h .waiting) s at)
+    number ≡ stepRefusal h (nextRecordOf (h .waiting) s at)
 unfolding stepRefusal recordKind foundAt
 refusal-is h s at {l} el ef en = en ∙ by-found h l ef ∙ ap (stepRefusal h) el
   where
-    by-found : (h : Hub) (l : Looked) {found : Found} → found ≡ foundAt (h .kinds) (h .names) (h .renames) (h .renamed) (h .touched) (l .raw .pad) (placeOf (h .codes) (l .raw .pad) (l .raw .code)) → cond (ltb 0 (h .waiting)) 0 (recordRefusal l (h .pads) (found .kind)) ≡ stepRefusal h l
+    by-found : (h : Hub) (l : NextRecord) {found : Found} → found ≡ foundAt (h .kinds) (h .names) (h .renames) (h .renamed) (h .hasbutton) (l .raw .pad) (placeOf (h .codes) (l .raw .pad) (l .raw .code)) → cond (ltb 0 (h .waiting)) 0 (recordRefusal l (h .pads) (found .kind)) ≡ stepRefusal h l
     by-found h l ef = ap (λ (x : Found). cond (ltb 0 (h .waiting)) 0 (recordRefusal l (h .pads) (x .kind))) ef

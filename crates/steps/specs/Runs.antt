@@ -1,5 +1,4 @@
 -- How a run goes from where it stands: it stops, it refuses the next record, or it makes a step. By the verdict, which the code works out in two tests.
--- Assumes nothing.
 use Prim.Native.Nat.{ℕ, zero, suc, _+_, _-_, _*_, _≤_, _<_}
 use mathlib.Core.Path.{_≡_, refl, sym, _∙_, ap}
 use mathlib.Core.Bool.{Bool, true, false, cond, not, _&&_, _||_}
@@ -10,14 +9,14 @@ use native.Mathlib.Omega.{arith}
 use borrow.Author.Tests.{lt-ltb, le-ltb, ltb-false, eqb-false, leb-true}
 use Rattle.numbers.specs.Constants.{withinOf}
 use Rattle.rules.specs.declared.Hub.{Hub}
-use Rattle.rules.specs.declared.Looked.{Looked}
+use Rattle.rules.specs.declared.NextRecord.{NextRecord}
 use Rattle.rules.specs.declared.Pumped.{Pumped}
 use Rattle.rules.specs.declared.PumpAnswer.{PumpAnswer}
 use Rattle.rules.specs.declared.PumpAnswer.the-variants as pumpAnswer
 use Rattle.rules.specs.Names.{bufferLimit}
 use Rattle.rules.specs.Forms.{recordSize, eventSize}
 use Rattle.rules.specs.Refusals.{pumpRefusal, recordRefusal, fieldsRefusal, first, unlessFits}
-use Rattle.rules.specs.Step.{lookedOf, stepRefusal}
+use Rattle.rules.specs.Step.{nextRecordOf, stepRefusal}
 use Rattle.rules.specs.Pump.{Progress, Run, Verdict, going, stopping, refusing, verdictBy, verdictOf, stopOf, stopAnswer, ended, endedBy, stepped, runOf, startOf, pumpBy, pumpOf, placeAfter}
 
 -- what a call leaves: its answer with the hub, and the out buffer
@@ -85,7 +84,7 @@ roomy waiting more room left e z =
 module _ (h : Hub) (s : List ℕ) (at : ℕ) (out : List ℕ) (events steps left : ℕ) {why : ℕ}
     (stop : why ≡ stopOf (h .waiting) (length s - at) (length out - eventSize * events) left) where
   -- the verdict, by the reason that the code worked out
-  verdict-is : verdictOf left s (standing h at out events steps) ≡ verdictBy why (stepRefusal h (lookedOf (h .waiting) s at))
+  verdict-is : verdictOf left s (standing h at out events steps) ≡ verdictBy why (stepRefusal h (nextRecordOf (h .waiting) s at))
   unfolding verdictOf
   verdict-is = rw stop
 
@@ -96,9 +95,9 @@ module _ (h : Hub) (s : List ℕ) (at : ℕ) (out : List ℕ) (events steps left
   run-stops p e =
       rw e
       (sym
-      (by-verdict (verdict-is ∙ stops why (stepRefusal h (lookedOf (h .waiting) s at)) p) ∙ ends-stopping left why s (standing h at out events steps)))
+      (by-verdict (verdict-is ∙ stops why (stepRefusal h (nextRecordOf (h .waiting) s at)) p) ∙ ends-stopping left why s (standing h at out events steps)))
 
-  module _ {number : ℕ} (z : why ≤ 0) (refusal : number ≡ stepRefusal h (lookedOf (h .waiting) s at)) where
+  module _ {number : ℕ} (z : why ≤ 0) (refusal : number ≡ stepRefusal h (nextRecordOf (h .waiting) s at)) where
     pub run-refuses : 0 < number → leaves (record { hub = h; answer = pumpAnswer.Refused number at events steps }) out ≡ rest left s (standing h at out events steps)
     run-refuses p =
         sym

@@ -1,5 +1,5 @@
 -- What a turn answers where a caller needs more than an equation: a ring's place with its bound, and the events to push as a part of a list, with the law
--- that the part is the law book's. Assumes nothing.
+-- that the part is the law book's.
 use Prim.Native.Nat.{ℕ, suc, _+_, _-_, _≤_, _<_}
 use mathlib.Core.Path.{_≡_, refl}
 use mathlib.Core.Bool.{Bool, true, false, cond}
@@ -30,7 +30,7 @@ pub record RingIs (place r : ℕ) : Type 0 where
 unfoldable pub takenBy : ℕ → Slot → RawRecord → Found → Element → ButtonData → Float → Float → Bool → Dispatched
 takenBy waiting slot r found e b pressed released reversed =
     cond (ltb 0 waiting) (single (eventOf slot))
-    (dispatchOf r (found .name) e (readPressed (found .touched) b) pressed released reversed)
+    (dispatchOf r (found .name) e (readPressed (found .hasbutton) b) pressed released reversed)
 
 -- the events of an array from one place up to another
 abbrev pub part : List Event → ℕ → ℕ → List Event

@@ -6,7 +6,7 @@ ghost use lib.Dec.{ltb};
 ghost use Rattle.numbers.specs.Constants.{withinOf};
 ghost use Rattle.rules.specs.Refusals.{recordRefusal};
 ghost use Rattle.rules.specs.Hub.{longerOf, slotAt};
-ghost use Rattle.rules.specs.Step.{connectedAfter, renamedAfter, joinRun, headAfter};
+ghost use Rattle.rules.specs.Step.{connectedAfter, renamedAfter, marksCleared, headAfter};
 ghost use Rattle.rules.specs.Pump.{stopOf, stopAnswer, placeAfter};
 ghost use Rattle.rules.specs.State.{buttonAfter, axisAfter};
 ghost use Rattle.turn.specs.Turn.{RingIs, takenBy};
@@ -19,7 +19,7 @@ use rules::Element;
 use rules::Event;
 use rules::KIND_CONNECTED;
 use rules::KIND_DISCONNECTED;
-use rules::Looked;
+use rules::NextRecord;
 use rules::PumpAnswer;
 use rules::RECORD_SIZE;
 use rules::RawRecord;
@@ -67,7 +67,7 @@ pub fn stop_answer(why: u8, place: usize, events: usize, steps: usize) -> PumpAn
 }
 
 // The next record's refusal; 0 while something waits.
-pub fn refusal(waiting: u8, l: Looked, pads: u8, kind: u8) -> u8
+pub fn refusal(waiting: u8, l: NextRecord, pads: u8, kind: u8) -> u8
     ensures { λ r. ⌜ r ≡ cond (ltb 0 waiting) 0 (recordRefusal l pads kind) ⌝ }
 {
     choices::chosen(0 < waiting, 0, refusals::record_refusal(l, pads, kind))
@@ -98,7 +98,7 @@ pub fn take(
             next: e,
         };
     }
-    let held = state::read_pressed(found.touched, b);
+    let held = state::read_pressed(found.hasbutton, b);
     dispatch::dispatch(raw, found.name, element, held, pressed, released, reversed)
 }
 
@@ -127,8 +127,8 @@ pub fn forget(renamed: &mut [bool; 4], p: u8, kind: u8)
 }
 
 // How many marks of a run Connected takes off.
-pub fn join_run(kind: u8, n: usize) -> usize
-    ensures { λ r. ⌜ r ≡ joinRun kind n ⌝ }
+pub fn marks_cleared(kind: u8, n: usize) -> usize
+    ensures { λ r. ⌜ r ≡ marksCleared kind n ⌝ }
 {
     if kind == KIND_CONNECTED { n } else { 0 }
 }

@@ -15,7 +15,7 @@ use Rattle.rules.specs.Forms.{fieldOf}
 use Rattle.rules.specs.Places.{namedOf, presentNames}
 use Rattle.rules.specs.Hub.{slotAt}
 use Rattle.pad.specs.Found.{Placed, Named}
-use Rattle.gather.specs.Sight.{PlaceIs, FoundIs, SightIs}
+use Rattle.gather.specs.EventPlaces.{PlaceIs, FoundIs, EventPlacesAre}
 use Rattle.rules.specs.Hub.{hatPlaceOf, partnerPlaceOf}
 use Rattle.hats.specs.Post.{Converted}
 use Rattle.filters.specs.Post.{Passed}
@@ -42,9 +42,9 @@ unique-place-of codes pad code = one-owed _ (λ r w. w .is)
 pub unique-named : (names : List ℕ) (pad name : ℕ) → One (Named names pad name)
 unique-named names pad name = one-owed _ (λ r w. w .is)
 
-pub unique-find : (codes kinds names renames : List ℕ) (renamed touched : List Bool) (p code : ℕ)
-    → One (FoundIs codes kinds names renames renamed touched p code)
-unique-find codes kinds names renames renamed touched p code = one-owed _ (λ r w. w .is)
+pub unique-find : (codes kinds names renames : List ℕ) (renamed hasbutton : List Bool) (p code : ℕ)
+    → One (FoundIs codes kinds names renames renamed hasbutton p code)
+unique-find codes kinds names renames renamed hasbutton p code = one-owed _ (λ r w. w .is)
 
 -- the three below, and any other that answers a place
 pub unique-place : (place : ℕ) → One (PlaceIs place)
@@ -60,9 +60,9 @@ unique-present-place names renames renamed p name = unique-place _
 pub unique-partner-place : (names renames : List ℕ) (renamed : List Bool) (p name : ℕ) → One (PlaceIs (partnerPlaceOf names renames renamed p name))
 unique-partner-place names renames renamed p name = unique-place _
 
-pub unique-sighted-again : (codes kinds names renames : List ℕ) (renamed converts reconverts touched moved flags : List Bool) (p name code : ℕ)
-    → One (SightIs codes kinds names renames renamed converts reconverts touched moved flags p name code)
-unique-sighted-again codes kinds names renames renamed converts reconverts touched moved flags p name code = one-owed _ (λ r w. w .is)
+pub unique-event-places : (codes kinds names renames : List ℕ) (renamed converts newconverts hasbutton hasaxis flags : List Bool) (p name code : ℕ)
+    → One (EventPlacesAre codes kinds names renames renamed converts newconverts hasbutton hasaxis flags p name code)
+unique-event-places codes kinds names renames renamed converts newconverts hasbutton hasaxis flags p name code = one-owed _ (λ r w. w .is)
 
 -- ---- hats, filters: what they give, and how many events they queue at most
 
@@ -77,9 +77,9 @@ unique-through on v e = one-owed _ (λ r w. w .is)
 
 -- ---- repeat: the first due place, and that the button there is due
 
-pub unique-first-due : (connected touched : List Bool) (buttons : List ButtonData) (after every clock : ℕ)
-    → One (Scanned connected touched buttons after every clock)
-unique-first-due connected touched buttons after every clock = one-owed _ (λ r w. w .is)
+pub unique-first-due : (connected hasbutton : List Bool) (buttons : List ButtonData) (after every clock : ℕ)
+    → One (Scanned connected hasbutton buttons after every clock)
+unique-first-due connected hasbutton buttons after every clock = one-owed _ (λ r w. w .is)
 
 -- ---- turn: a place of the ring
 

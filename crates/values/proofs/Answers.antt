@@ -1,4 +1,4 @@
--- What an answer that was not refused tells. Assumes nothing.
+-- What an answer that was not refused tells.
 use mathlib.Core.Path.{_≡_, sym, _∙_}
 use mathlib.Core.Bool.{Bool, true, false, not}
 use borrow.Author.Tests.{not-false}

@@ -1,4 +1,4 @@
--- A loop that copies s to the front of d: what it has made at its i-th turn and at its end. Assumes nothing.
+-- A loop that copies s to the front of d: what it has made at its i-th turn and at its end.
 use mathlib.Core.Path.{_≡_, sym, _∙_, ap}
 use mathlib.Core.List.{List, _++_}
 use Prim.Native.Nat.{ℕ, suc, _+_, _≤_, _<_}

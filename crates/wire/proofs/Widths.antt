@@ -1,5 +1,5 @@
 -- The law over the width that every reader's proof cites: a field is its first bytes times 256 and its last byte, and stays below its power of
--- 256, which up to eight bytes is below 2 ^ 64. Assumes nothing.
+-- 256, which up to eight bytes is below 2 ^ 64.
 use mathlib.Core.Path.{_≡_, sym, _∙_, ap}
 use mathlib.Core.List.{List}
 use Prim.Native.Nat.{ℕ, _+_, _*_, _≤_, _<_, _^_}

@@ -1,5 +1,5 @@
 -- What was written reads back: a field of any width, and an event inside the limits. The field law is one, over the width: bytes are split off at
--- the front, where the number is written, and at the back, where it is read. Assumes nothing.
+-- the front, where the number is written, and at the back, where it is read.
 use mathlib.Core.Path.{_≡_, refl, sym, _∙_, ap}
 use mathlib.Core.Bool.{true}
 use mathlib.Core.List.{List, [], _∷_, _++_}

@@ -1,5 +1,5 @@
 -- What a reader's tests say of a record and of an event, over plain numbers: each test that fails refuses, and where all hold the fields read are
--- the form's. Assumes nothing.
+-- the form's.
 use mathlib.Core.Path.{_≡_}
 use mathlib.Core.Bool.{true, false}
 use mathlib.Core.List.{List}

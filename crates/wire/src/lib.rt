@@ -10,8 +10,8 @@ use rules::EventRead;
 use rules::KIND_AXIS;
 use rules::KIND_CONNECTED;
 use rules::KIND_DISCONNECTED;
-use rules::Looked;
 use rules::NO_NAME;
+use rules::NextRecord;
 use rules::RECORD_SIZE;
 use rules::RawRecord;
 use rules::RecordRead;
@@ -21,7 +21,7 @@ ghost use Prim.Native.Nat.{_+_, _≤_, _<_, _^_};
 ghost use lib.ListN.{length, drop};
 ghost use Rattle.rules.specs.Forms.{fieldOf, signedOf, opens, recordKindFits, readRecord, nameFits, eventKindFits, readEvent, formBytes};
 ghost use Rattle.rules.specs.Events.{eventBytes};
-ghost use Rattle.rules.specs.Step.{lookedOf};
+ghost use Rattle.rules.specs.Step.{nextRecordOf};
 ghost use Rattle.wire.specs.Bytes.{swappedOf, laidOut};
 
 // ---- sizes, kinds and limits
@@ -300,8 +300,8 @@ pub fn write_event(out: &mut [u8], e: Event)
 // ---- the record that a step looks at
 
 // Where events wait a step takes the queue's front and looks at no record; a malformed record is shown as a blank one that does not fit.
-pub fn look(s: &[u8], at: usize, waiting: u8) -> Looked
-    ensures { λ r. ⌜ r ≡ lookedOf waiting (now (s .entry)) at ⌝ }
+pub fn next_record(s: &[u8], at: usize, waiting: u8) -> NextRecord
+    ensures { λ r. ⌜ r ≡ nextRecordOf waiting (now (s .entry)) at ⌝ }
 {
     let blank = RawRecord {
         kind: 0,
@@ -311,15 +311,15 @@ pub fn look(s: &[u8], at: usize, waiting: u8) -> Looked
         time: 0,
     };
     if 0 < waiting {
-        return Looked {
+        return NextRecord {
             raw: blank,
             fits: true,
         };
     }
     let read = read_record(s, at);
     match read {
-        RecordRead::Record(raw) => Looked { raw, fits: true },
-        RecordRead::Malformed => Looked {
+        RecordRead::Record(raw) => NextRecord { raw, fits: true },
+        RecordRead::Malformed => NextRecord {
             raw: blank,
             fits: false,
         },

@@ -1,5 +1,5 @@
 -- How often a held button repeats until now, when each repeat that is answered is handed back to the hub: 01's `repeat` and `update` in turn.
--- Definitions only. Assumes nothing.
+-- Definitions only.
 use Prim.Native.Nat.{ℕ, zero, suc}
 use mathlib.Core.Bool.{true, false}
 use mathlib.Core.List.{List, [], _∷_}

@@ -1,5 +1,5 @@
 -- 01's "Numbers worked out" that are to be proved (P): one table, one theorem, computed by the checker from the definitions of `numbers` and `rules`.
--- A value is compared as its bits, so that 0.0 and -0.0 differ. A new kind of case is one constructor, one clause of `right` and its rows. Assumes nothing.
+-- A value is compared as its bits, so that 0.0 and -0.0 differ. A new kind of case is one constructor, one clause of `right` and its rows.
 use mathlib.Core.Path.{_≡_, refl}
 use mathlib.Core.Bool.{Bool, true, false, _&&_}
 use mathlib.Core.List.{List, [], _∷_}

@@ -1,5 +1,5 @@
 -- `apart` meets its contract. A number with a field above 0 has its 24 digits at once; a subnormal one is doubled until it has them.
--- The invariant: m * 2 ^ z stays 2 ^ 24 times the units. The measure is z, which `some-left` keeps above 0. Assumes nothing.
+-- The invariant: m * 2 ^ z stays 2 ^ 24 times the units. The measure is z, which `some-left` keeps above 0.
 use mathlib.Core.Path.{_≡_, ap, _∙_}
 use Prim.Native.Nat.{ℕ, _*_, _/_, _%_, _^_, _≤_, _<_}
 use native.Mathlib.Omega.{arith}

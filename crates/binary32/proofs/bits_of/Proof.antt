@@ -1,4 +1,4 @@
--- `bits_of` meets its contract: a value that differs from itself is the NaN, and any other has its bits. Assumes nothing.
+-- `bits_of` meets its contract: a value that differs from itself is the NaN, and any other has its bits.
 use mathlib.Core.Path.{_≡_, refl, sym, subst}
 use lib.Dec.{T}
 use lib.Ieee.{Float, nan, binary32, toBits}

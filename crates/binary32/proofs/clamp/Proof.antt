@@ -1,4 +1,4 @@
--- `clamp` meets its contract: each of the three ways through the code is one arm of `clampOf`. Assumes nothing.
+-- `clamp` meets its contract: each of the three ways through the code is one arm of `clampOf`.
 use Rattle.numbers.specs.Clamp.{clampOf}
 use Rattle.binary32.proofs.clamp.Statement.{statement}
 use Rattle.binary32.proofs.clamp.Tie as tie

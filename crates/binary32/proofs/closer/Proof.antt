@@ -1,4 +1,4 @@
--- `closer` meets its contract: the sum cannot wrap, since w / s is at most w. Assumes nothing.
+-- `closer` meets its contract: the sum cannot wrap, since w / s is at most w.
 use native.Mathlib.Nat.{div-le-self}
 use native.Mathlib.Omega.{arith}
 use borrow.Author.Needs.{needs}

@@ -1,4 +1,4 @@
--- `even` meets its contract: each way through the code is one value of z % 2. Assumes nothing.
+-- `even` meets its contract: each way through the code is one value of z % 2.
 use mathlib.Core.Path.{_≡_, sym, ap}
 use Prim.Native.Nat.{ℕ, _+_, _*_, _%_, _^_}
 use native.Mathlib.Omega.{arith}

@@ -1,5 +1,5 @@
 -- `floor_root` meets its contract. The invariant: s is not below the root, and t is Newton's step from s. The measure is s.
--- Where the step does not go down, s * s ≤ w (`closer-done`). Assumes nothing.
+-- Where the step does not go down, s * s ≤ w (`closer-done`).
 use mathlib.Core.Path.{_≡_, sym, subst}
 use Prim.Native.Nat.{ℕ, _+_, _*_, _/_, _≤_, _<_}
 use native.Mathlib.Omega.{arith}

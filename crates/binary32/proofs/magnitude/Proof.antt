@@ -1,4 +1,4 @@
--- `magnitude` meets its contract: what `clamp` and `sqrt` ensure, one put into the other. Assumes nothing.
+-- `magnitude` meets its contract: what `clamp` and `sqrt` ensure, one put into the other.
 use mathlib.Core.Path.{ap, _∙_}
 use lib.Ieee.{Float}
 use borrow.Author.Needs.{needs}

@@ -1,4 +1,4 @@
--- `near_root` meets its contract: of the whole part that `floor_root` ensures, each way through the code is one arm of `rounded`. Assumes nothing.
+-- `near_root` meets its contract: of the whole part that `floor_root` ensures, each way through the code is one arm of `rounded`.
 use mathlib.Core.Path.{sym, ap, _∙_}
 use mathlib.Core.Bool.{Bool, cond}
 use Prim.Native.Nat.{_+_, _*_, _-_}

@@ -1,4 +1,4 @@
--- `of_bits` meets its contract: a pattern above +∞'s, the sign left out, is a NaN's, and any other has its value. Assumes nothing.
+-- `of_bits` meets its contract: a pattern above +∞'s, the sign left out, is a NaN's, and any other has its value.
 use mathlib.Core.Path.{_≡_, sym, subst, _∙_}
 use mathlib.Core.Bool.{Bool, true, not}
 use Prim.Native.Nat.{ℕ, _%_, _<_}

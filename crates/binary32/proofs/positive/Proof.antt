@@ -1,4 +1,4 @@
--- `positive` meets its contract: the digits and the exponent that the code packs into bits are `digits` and `places` of the definition. Assumes nothing.
+-- `positive` meets its contract: the digits and the exponent that the code packs into bits are `digits` and `places` of the definition.
 use mathlib.Core.Path.{sym, ap, _∙_, subst}
 use mathlib.Core.Bool.{false}
 use Prim.Native.Nat.{ℕ, _+_, _/_, _≤_}

@@ -1,4 +1,4 @@
--- `sqrt` meets its contract: by the bits, each way through the code is one clause of `sqrtOf`. Assumes nothing.
+-- `sqrt` meets its contract: by the bits, each way through the code is one clause of `sqrtOf`.
 use mathlib.Core.Path.{_≡_, sym, ap, _∙_, subst}
 use Prim.Native.Nat.{_<_}
 use native.Mathlib.Omega.{arith}

@@ -1,4 +1,4 @@
--- `calls::insert_event` meets its contract: by what reading the bytes finds. Assumes nothing.
+-- `calls::insert_event` meets its contract: by what reading the bytes finds.
 use Rattle.calls.specs.Judged.{insertForm}
 use Rattle.rules.specs.Calls.{insertOf}
 use borrow.Author.Needs.{needs}

@@ -1,4 +1,4 @@
--- `calls::insert_form` meets its contract: by the refusal. Assumes nothing.
+-- `calls::insert_form` meets its contract: by the refusal.
 use Rattle.calls.specs.Judged.{insertForm, insert-refused}
 use borrow.Author.Needs.{needs}
 use Rattle.calls.proofs.insert_form.Statement.{statement}

@@ -1,4 +1,4 @@
--- `calls::inserted` meets its contract: what the calls ensure, put together: one slot and one number are written. Assumes nothing.
+-- `calls::inserted` meets its contract: what the calls ensure, put together: one slot and one number are written.
 use Rattle.rules.specs.Hub.{queueAfter, waitingAfter}
 use Rattle.rules.specs.Calls.{insertedAt}
 use borrow.Author.Needs.{needs}

@@ -1,4 +1,4 @@
--- `calls::update` meets its contract: by what reading the bytes finds. Assumes nothing.
+-- `calls::update` meets its contract: by what reading the bytes finds.
 use Rattle.calls.specs.Judged.{updateForm}
 use Rattle.rules.specs.Calls.{updateOf}
 use borrow.Author.Needs.{needs}

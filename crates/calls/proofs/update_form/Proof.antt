@@ -1,4 +1,4 @@
--- `calls::update_form` meets its contract: by the refusal. Assumes nothing.
+-- `calls::update_form` meets its contract: by the refusal.
 use Rattle.calls.specs.Judged.{updateForm, update-refused, update-done}
 use borrow.Author.Needs.{needs}
 use Rattle.calls.proofs.update_form.Statement.{statement}

@@ -1,4 +1,4 @@
--- `calls::updated` meets its contract: what the calls ensure, put together by one law: two records and two marks are written. Assumes nothing.
+-- `calls::updated` meets its contract: what the calls ensure, put together by one law: two records and two marks are written.
 use Rattle.calls.specs.Judged.{recordsOf, updated-is}
 use borrow.Author.Needs.{needs}
 use Rattle.calls.proofs.updated.Statement.{statement}

@@ -19,13 +19,13 @@ enum-told c = search needs
 
 returns : tie.Need-returns
 unfolding insertOf insertForm
-returns c kinds names renames touched moved marks =
+returns c kinds names renames hasbutton hasaxis marks =
     rw (← c .before .before .before .before .before .before .before .before .read-event .ensures, c .before .before .before .before .before .before .read .given .1)
-    (c .insert-form .ensures kinds names renames touched moved marks)
+    (c .insert-form .ensures kinds names renames hasbutton hasaxis marks)
 
 returns-2 : tie.Need-returns-2
 unfolding insertOf
-returns-2 c kinds names renames touched moved marks = rw (← c .before .before .read-event .ensures, c .enum-told .given .1)
+returns-2 c kinds names renames hasbutton hasaxis marks = rw (← c .before .before .read-event .ensures, c .enum-told .given .1)
 
 pub insert-event-spec : {M : Type 1} → statement M
 insert-event-spec =

@@ -14,7 +14,7 @@ insert-refusal-requires : tie.Need-insert-refusal-requires
 insert-refusal-requires c κs = search needs
 
 returns : tie.Need-returns
-returns c kinds names renames touched moved marks =
+returns c kinds names renames hasbutton hasaxis marks =
     insert-refused _ _ (c .before .before .place-of .ensures .is) (c .before .insert-refusal .ensures) (c .if1 .taken)
 
 form-event-requires : tie.Need-form-event-requires
@@ -24,11 +24,11 @@ push-requires : tie.Need-push-requires
 push-requires c κs = search needs
 
 returns-2 : tie.Need-returns-2
-returns-2 c kinds names renames touched moved marks =
+returns-2 c kinds names renames hasbutton hasaxis marks =
     let judged = c .before .before .before .before .before .before .before in
     let a = judged .before .before .args in
     insert-done _ _ (judged .before .place-of .ensures .is) (judged .insert-refusal .ensures) (c .before .before .before .before .before .before .if1 .left) (c .before .before .before .before .before .form-event .ensures)
-    (pushed-hub (a .head) (listed (now (a .codes)) kinds names renames) touched moved marks (c .push .ensures))
+    (pushed-hub (a .head) (listed (now (a .codes)) kinds names renames) hasbutton hasaxis marks (c .push .ensures))
 
 pub insert-form-spec : {M : Type 1} → statement M
 insert-form-spec =

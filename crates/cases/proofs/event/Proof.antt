@@ -1,4 +1,4 @@
--- `cases::event` meets its contract: the calls' equations, joined. Assumes nothing.
+-- `cases::event` meets its contract: the calls' equations, joined.
 use borrow.Author.Needs.{needs}
 use Rattle.cases.proofs.event.Statement.{statement}
 use Rattle.cases.proofs.event.Tie as tie

@@ -1,4 +1,4 @@
--- `cases::same` meets its contract: the calls' equations, joined. Assumes nothing.
+-- `cases::same` meets its contract: the calls' equations, joined.
 use borrow.Author.Needs.{needs}
 use Rattle.cases.proofs.same.Statement.{statement}
 use Rattle.cases.proofs.same.Tie as tie

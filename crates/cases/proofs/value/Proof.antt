@@ -1,4 +1,4 @@
--- `cases::value` meets its contract: the calls' equations, joined. Assumes nothing.
+-- `cases::value` meets its contract: the calls' equations, joined.
 use borrow.Author.Needs.{needs}
 use Rattle.cases.proofs.value.Statement.{statement}
 use Rattle.cases.proofs.value.Tie as tie

@@ -1,4 +1,4 @@
--- `cases::waits` meets its contract: the calls' equations, joined. Assumes nothing.
+-- `cases::waits` meets its contract: the calls' equations, joined.
 use borrow.Author.Needs.{needs}
 use Rattle.cases.proofs.waits.Statement.{statement}
 use Rattle.cases.proofs.waits.Tie as tie

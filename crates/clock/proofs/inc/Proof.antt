@@ -1,4 +1,4 @@
--- `clock::inc` meets its contract: one field is written, with what the call ensures. Assumes nothing.
+-- `clock::inc` meets its contract: one field is written, with what the call ensures.
 use Rattle.rules.specs.Calls.{countedAt, incOf}
 use borrow.Author.Needs.{needs}
 use Rattle.clock.proofs.inc.Statement.{statement}

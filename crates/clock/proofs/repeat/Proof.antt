@@ -1,4 +1,4 @@
--- `clock::repeat` meets its contract: by the refusal, and by whether a place is due. Assumes nothing.
+-- `clock::repeat` meets its contract: by the refusal, and by whether a place is due.
 use Rattle.clock.specs.Judged.{repeat-refused, repeat-quiet, repeat-due}
 use Rattle.rules.specs.Repeat.{duePlace}
 use borrow.Author.Needs.{needs}

@@ -1,4 +1,4 @@
--- `clock::reset_counter` meets its contract: one field is written. Assumes nothing.
+-- `clock::reset_counter` meets its contract: one field is written.
 use mathlib.Core.Path.{refl}
 use Rattle.rules.specs.Calls.{countedAt, resetOf}
 use Rattle.clock.proofs.reset_counter.Statement.{statement}

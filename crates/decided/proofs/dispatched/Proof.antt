@@ -1,4 +1,4 @@
--- `dispatched` is safe: what `dispatch` requires of the raw value is what `within` answered of it. Assumes nothing.
+-- `dispatched` is safe: what `dispatch` requires of the raw value is what `within` answered of it.
 use borrow.Author.Needs.{needs}
 use Rattle.decided.proofs.Answers.{passed}
 use Rattle.decided.proofs.dispatched.Statement.{statement}

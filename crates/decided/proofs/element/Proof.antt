@@ -1,4 +1,4 @@
--- `element` is safe: what a function requires of a whole number is what `within` answered of it. Assumes nothing.
+-- `element` is safe: what a function requires of a whole number is what `within` answered of it.
 use borrow.Author.Needs.{needs}
 use Rattle.decided.proofs.Answers.{passed}
 use Rattle.decided.proofs.element.Statement.{statement}

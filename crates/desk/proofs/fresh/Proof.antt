@@ -1,4 +1,4 @@
--- `desk::fresh` meets its contract: each array is its one value throughout. Assumes nothing.
+-- `desk::fresh` meets its contract: each array is its one value throughout.
 use mathlib.Core.Path.{refl}
 use Rattle.rules.specs.Calls.{freshHub}
 use Rattle.desk.proofs.fresh.Statement.{statement}

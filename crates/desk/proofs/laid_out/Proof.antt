@@ -1,4 +1,4 @@
--- `desk::laid_out` meets its contract: at the loop's head the rest laid into the hub gives the whole. Assumes nothing.
+-- `desk::laid_out` meets its contract: at the loop's head the rest laid into the hub gives the whole.
 use Prim.Native.Nat.{ℕ, _+_, _-_, _≤_, _<_}
 use mathlib.Core.Path.{_≡_, refl, sym, _∙_}
 use lib.ListN.{length, drop}

@@ -1,4 +1,4 @@
--- `desk::new_hub` meets its contract: by the refusal. Assumes nothing.
+-- `desk::new_hub` meets its contract: by the refusal.
 use Rattle.desk.specs.Calls.{new-refused, new-served}
 use borrow.Author.Needs.{needs}
 use Rattle.desk.proofs.new_hub.Statement.{statement}

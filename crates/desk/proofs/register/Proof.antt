@@ -1,4 +1,4 @@
--- `desk::register` meets its contract: by the refusals in their order, and the sheet laid out. Assumes nothing.
+-- `desk::register` meets its contract: by the refusals in their order, and the sheet laid out.
 use Prim.Native.Nat.{ℕ}
 use Rattle.rules.specs.Sheets.{hatsOf, countOf}
 use Rattle.rules.specs.Calls.{registeredAt}

@@ -1,4 +1,4 @@
--- `desk::registered` meets its contract: what its parts ensure, put together by one law. Assumes nothing.
+-- `desk::registered` meets its contract: what its parts ensure, put together by one law.
 use Rattle.desk.specs.Calls.{registered-is}
 use borrow.Author.Needs.{needs}
 use Rattle.desk.proofs.registered.Statement.{statement}

@@ -1,4 +1,4 @@
--- `desk::rename` meets its contract: by the refusal. Assumes nothing.
+-- `desk::rename` meets its contract: by the refusal.
 use denote.Ref.{now}
 use Rattle.rules.specs.Calls.{renamesOf}
 use Rattle.desk.specs.Calls.{rename-refused, rename-served}

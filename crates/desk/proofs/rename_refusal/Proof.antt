@@ -1,4 +1,4 @@
--- `desk::rename_refusal` meets its contract: what the calls ensure, put together. Assumes nothing.
+-- `desk::rename_refusal` meets its contract: what the calls ensure, put together.
 use Rattle.rules.specs.Calls.{renameRefusal}
 use borrow.Author.Needs.{needs}
 use Rattle.desk.proofs.rename_refusal.Statement.{statement}

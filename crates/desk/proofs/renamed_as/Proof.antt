@@ -1,4 +1,4 @@
--- `desk::renamed_as` meets its contract: what its parts ensure, put together by one law. Assumes nothing.
+-- `desk::renamed_as` meets its contract: what its parts ensure, put together by one law.
 use Rattle.desk.specs.Calls.{renamed-is}
 use borrow.Author.Needs.{needs}
 use Rattle.desk.proofs.renamed_as.Statement.{statement}

@@ -1,4 +1,4 @@
--- `desk::set_in` meets its contract: past the end nothing is set. Assumes nothing.
+-- `desk::set_in` meets its contract: past the end nothing is set.
 use denote.Ref.{now}
 use mathlib.Core.Path.{sym}
 use lib.Seq.{set-out}

@@ -61,7 +61,7 @@ returns-3 c renames times queuebytes queuecodes =
     let widened = laid .before .before .before .before .before .before in
     let judged = widened .before .before .before .before in
     let a = judged .before .before .before .args in
-    register-lent (a .head) (now (a .codes)) (now (a .kinds)) (now (a .names)) renames (now (a .touched)) (now (a .moved)) (now (a .values)) times
+    register-lent (a .head) (now (a .codes)) (now (a .kinds)) (now (a .names)) renames (now (a .hasbutton)) (now (a .hasaxis)) (now (a .values)) times
     (now (a .marks)) queuebytes queuecodes (now (a .sheet)) (judged .before .if1 .left) (judged .sheet-refusal .ensures)
     (widened .before .before .before .if2 .left) refl refl (widened .wide .ensures .0) (laid .lay-in .ensures)
     (cleared .before .before .clear .ensures) (cleared .clear2 .ensures) (c .before .converts .ensures) (c .with-pad .ensures)

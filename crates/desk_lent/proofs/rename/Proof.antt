@@ -10,7 +10,7 @@ rename-refusal-requires : tie.Need-rename-refusal-requires
 rename-refusal-requires c κs = search needs
 
 returns : tie.Need-returns
-returns c names times queuebytes queuecodes touched moved marks values =
+returns c names times queuebytes queuecodes hasbutton hasaxis marks values =
     rename-refused _ _ _ (c .before .rename-refusal .ensures _ _) (c .if1 .taken)
 
 rename-in-requires : tie.Need-rename-in-requires
@@ -23,12 +23,12 @@ with-names-requires : tie.Need-with-names-requires
 with-names-requires c κs = search needs
 
 returns-2 : tie.Need-returns-2
-returns-2 c names times queuebytes queuecodes touched moved marks values =
+returns-2 c names times queuebytes queuecodes hasbutton hasaxis marks values =
     let named = c .before .before .before in
     let judged = named .before .before .before in
     let a = judged .before .before .args in
     rename-lent (a .head) (a .p) (now (a .list)) (now (a .codes)) (now (a .kinds)) names (now (a .renames))
-    (columns touched moved values times marks queuebytes queuecodes) (judged .rename-refusal .ensures _ _) (named .before .before .if1 .left)
+    (columns hasbutton hasaxis values times marks queuebytes queuecodes) (judged .rename-refusal .ensures _ _) (named .before .before .if1 .left)
     (named .rename-in .ensures) (c .before .converts .ensures) (c .with-names .ensures)
 
 pub rename-spec : {M : Type 1} → statement M

@@ -1,4 +1,4 @@
--- `axis_name` meets its contract, by what `is_axis` ensures of the test. Assumes nothing.
+-- `axis_name` meets its contract, by what `is_axis` ensures of the test.
 use borrow.Author.Needs.{needs}
 use Rattle.rules.specs.Dispatch.{axisName}
 use Rattle.dispatch.proofs.axis_name.Statement.{statement}

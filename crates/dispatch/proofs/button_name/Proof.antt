@@ -1,4 +1,4 @@
--- `button_name` meets its contract, by what `is_button` ensures of the test. Assumes nothing.
+-- `button_name` meets its contract, by what `is_button` ensures of the test.
 use borrow.Author.Needs.{needs}
 use Rattle.rules.specs.Dispatch.{buttonName}
 use Rattle.dispatch.proofs.button_name.Statement.{statement}

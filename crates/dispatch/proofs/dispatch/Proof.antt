@@ -1,4 +1,4 @@
--- `dispatch` meets its contract: the kind is read in the order of `moveOf`, and each kind gives what its function ensures. Assumes nothing.
+-- `dispatch` meets its contract: the kind is read in the order of `moveOf`, and each kind gives what its function ensures.
 use borrow.Author.Needs.{needs}
 use Rattle.rules.specs.Dispatch.{dispatchOf, moveOf}
 use borrow.Author.Tests.{eq-eqb, ne-eqb}

@@ -1,4 +1,4 @@
--- `moved` meets its contract: a trigger or an axis, scaled by what `scale` ensures; the raw value that the machine reads is the value. Assumes nothing.
+-- `moved` meets its contract: a trigger or an axis, scaled by what `scale` ensures; the raw value that the machine reads is the value.
 use borrow.Author.Needs.{needs}
 use Rattle.rules.specs.Dispatch.{moveGives}
 use Rattle.scale.specs.Casts.{read}

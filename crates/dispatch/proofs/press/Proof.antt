@@ -1,4 +1,4 @@
--- `press` meets its contract: an axis alone, or a press with the value queued behind it. Assumes nothing.
+-- `press` meets its contract: an axis alone, or a press with the value queued behind it.
 use borrow.Author.Needs.{needs}
 use Rattle.rules.specs.Dispatch.{pressGives}
 use Rattle.dispatch.proofs.press.Statement.{statement}

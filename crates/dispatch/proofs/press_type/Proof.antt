@@ -1,4 +1,4 @@
--- `press_type` meets its contract: its two clauses. Assumes nothing.
+-- `press_type` meets its contract: its two clauses.
 use Rattle.dispatch.proofs.press_type.Statement.{statement}
 use Rattle.dispatch.proofs.press_type.Tie as tie
 

@@ -1,4 +1,4 @@
--- `presses` meets its contract: the threshold first, then whether the code is held. Assumes nothing.
+-- `presses` meets its contract: the threshold first, then whether the code is held.
 use Rattle.dispatch.proofs.presses.Statement.{statement}
 use Rattle.dispatch.proofs.presses.Tie as tie
 

@@ -1,4 +1,4 @@
--- `releases` meets its contract: the threshold first, then whether the code is held. Assumes nothing.
+-- `releases` meets its contract: the threshold first, then whether the code is held.
 use Rattle.dispatch.proofs.releases.Statement.{statement}
 use Rattle.dispatch.proofs.releases.Tie as tie
 

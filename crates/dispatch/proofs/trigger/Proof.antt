@@ -1,4 +1,4 @@
--- `trigger` meets its contract: the three clauses of the law book, by the two tests in its order. Assumes nothing.
+-- `trigger` meets its contract: the three clauses of the law book, by the two tests in its order.
 use borrow.Author.Needs.{needs}
 use Rattle.rules.specs.Dispatch.{triggerGives}
 use Rattle.dispatch.proofs.trigger.Statement.{statement}

@@ -1,4 +1,4 @@
--- `turned` meets its contract: the setting first, then the name. Assumes nothing.
+-- `turned` meets its contract: the setting first, then the name.
 use borrow.Author.Needs.{needs}
 use Rattle.dispatch.proofs.turned.Statement.{statement}
 use Rattle.dispatch.proofs.turned.Tie as tie

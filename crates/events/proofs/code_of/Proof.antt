@@ -1,4 +1,4 @@
--- `events::code_of` meets its contract: the definition is that of the event's cases, which `code_type` equals. Assumes nothing.
+-- `events::code_of` meets its contract: the definition is that of the event's cases, which `code_type` equals.
 use borrow.Author.Needs.{needs}
 use Rattle.rules.specs.Events.{codeOf}
 use Rattle.events.proofs.code_of.Statement.{statement}

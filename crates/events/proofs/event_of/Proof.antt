@@ -1,4 +1,4 @@
--- `events::event_of` meets its contract, field by field. Assumes nothing.
+-- `events::event_of` meets its contract, field by field.
 use borrow.Author.Needs.{needs}
 use Rattle.rules.specs.Events.{eventOf}
 use Rattle.events.proofs.event_of.Statement.{statement}

@@ -1,4 +1,4 @@
--- `events::form_event` meets its contract, field by field. Assumes nothing.
+-- `events::form_event` meets its contract, field by field.
 use borrow.Author.Needs.{needs}
 use Rattle.rules.specs.Events.{formEvent}
 use Rattle.events.proofs.form_event.Statement.{statement}

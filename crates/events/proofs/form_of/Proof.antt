@@ -1,4 +1,4 @@
--- `events::form_of` meets its contract, field by field. Assumes nothing.
+-- `events::form_of` meets its contract, field by field.
 use borrow.Author.Needs.{needs}
 use Rattle.rules.specs.Events.{formOf}
 use Rattle.events.proofs.form_of.Statement.{statement}

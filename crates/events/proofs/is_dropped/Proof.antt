@@ -1,4 +1,4 @@
--- `events::is_dropped` meets its contract: the definition is that of the event's cases, which `dropped_type` equals. Assumes nothing.
+-- `events::is_dropped` meets its contract: the definition is that of the event's cases, which `dropped_type` equals.
 use borrow.Author.Needs.{needs}
 use Rattle.rules.specs.Events.{isDropped}
 use Rattle.events.proofs.is_dropped.Statement.{statement}

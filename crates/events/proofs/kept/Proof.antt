@@ -1,4 +1,4 @@
--- `events::kept` meets its contract, by the flag. Assumes nothing.
+-- `events::kept` meets its contract, by the flag.
 use borrow.Author.Needs.{needs}
 use Rattle.rules.specs.Filters.{keptOf}
 use Rattle.events.proofs.kept.Statement.{statement}

@@ -1,4 +1,4 @@
--- `events::kind_of` meets its contract: the definition is that of the event's cases, which `kind_type` equals. Assumes nothing.
+-- `events::kind_of` meets its contract: the definition is that of the event's cases, which `kind_type` equals.
 use borrow.Author.Needs.{needs}
 use Rattle.rules.specs.Events.{kindOf}
 use Rattle.events.proofs.kind_of.Statement.{statement}

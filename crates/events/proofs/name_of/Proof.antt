@@ -1,4 +1,4 @@
--- `events::name_of` meets its contract: the definition is that of the event's cases, which `name_type` equals. Assumes nothing.
+-- `events::name_of` meets its contract: the definition is that of the event's cases, which `name_type` equals.
 use borrow.Author.Needs.{needs}
 use Rattle.rules.specs.Events.{nameOf}
 use Rattle.events.proofs.name_of.Statement.{statement}

@@ -1,4 +1,4 @@
--- `events::slot_of` meets its contract, field by field. Assumes nothing.
+-- `events::slot_of` meets its contract, field by field.
 use borrow.Author.Needs.{needs}
 use Rattle.rules.specs.Events.{slotOf}
 use Rattle.events.proofs.slot_of.Statement.{statement}

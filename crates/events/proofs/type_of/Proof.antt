@@ -1,4 +1,4 @@
--- `events::type_of` meets its contract: each test that holds says which kind it is, and the last case is what is left. Assumes nothing.
+-- `events::type_of` meets its contract: each test that holds says which kind it is, and the last case is what is left.
 use borrow.Author.Tests.{ne-eqb}
 use Rattle.rules.specs.Events.{typeOf}
 use Rattle.events.proofs.type_of.Statement.{statement}

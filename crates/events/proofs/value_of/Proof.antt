@@ -1,4 +1,4 @@
--- `events::value_of` meets its contract: the definition is that of the event's cases, which `value_type` equals. Assumes nothing.
+-- `events::value_of` meets its contract: the definition is that of the event's cases, which `value_type` equals.
 use borrow.Author.Needs.{needs}
 use Rattle.rules.specs.Events.{valueOf}
 use Rattle.events.proofs.value_of.Statement.{statement}

@@ -1,4 +1,4 @@
--- `behind` meets its contract: the three ways, by the two tests. Assumes nothing.
+-- `behind` meets its contract: the three ways, by the two tests.
 use borrow.Author.Needs.{needs}
 use borrow.Author.Tests.{eq-eqb, ne-eqb, le-leb, lt-leb}
 use Rattle.filters.specs.Behind.{behindOf}

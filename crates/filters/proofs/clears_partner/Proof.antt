@@ -1,4 +1,4 @@
--- `clears_partner` meets its contract: five tests joined by `both`, in the order of the definition. Assumes nothing.
+-- `clears_partner` meets its contract: five tests joined by `both`, in the order of the definition.
 use borrow.Author.Needs.{needs}
 use Rattle.rules.specs.Filters.{clearsPartner}
 use Rattle.filters.proofs.clears_partner.Statement.{statement}

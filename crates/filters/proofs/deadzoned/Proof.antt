@@ -1,5 +1,4 @@
 -- `deadzoned` meets its contract: each arm of the match is the clause of the law book for its kind of event, by whether there is a threshold.
--- Assumes nothing.
 use borrow.Author.Needs.{needs}
 use Rattle.rules.specs.Filters.{deadzonedOf}
 use Rattle.filters.proofs.deadzoned.Statement.{statement}

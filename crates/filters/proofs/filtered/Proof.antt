@@ -1,5 +1,4 @@
 -- `filtered` meets its contract: what the three filters ensure, each put into the next; the count is a law of the definition (`Counts`).
--- Assumes nothing.
 use borrow.Author.Needs.{needs}
 use Rattle.rules.specs.Filters.{filteredOf}
 use Rattle.filters.proofs.Counts.{passed}

@@ -1,4 +1,4 @@
--- `jittered` meets its contract: each arm of the match is the clause of the law book for its kind of event. Assumes nothing.
+-- `jittered` meets its contract: each arm of the match is the clause of the law book for its kind of event.
 use borrow.Author.Needs.{needs}
 use Rattle.rules.specs.Filters.{jitteredOf}
 use Rattle.filters.proofs.jittered.Statement.{statement}

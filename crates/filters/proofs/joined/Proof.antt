@@ -1,4 +1,4 @@
--- `joined` meets its contract: dpad queued three at most, so the clearing event has room behind them. Assumes nothing.
+-- `joined` meets its contract: dpad queued three at most, so the clearing event has room behind them.
 use borrow.Author.Needs.{needs}
 use Rattle.rules.specs.Filters.{joined}
 use Rattle.filters.proofs.joined.Statement.{statement}

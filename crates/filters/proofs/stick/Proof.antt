@@ -1,4 +1,4 @@
--- `stick` meets its contract: each field is what its function ensures. Assumes nothing.
+-- `stick` meets its contract: each field is what its function ensures.
 use borrow.Author.Needs.{needs}
 use Rattle.rules.specs.Filters.{stickZoned, flagsAfter}
 use Rattle.filters.proofs.stick.Statement.{statement}

@@ -1,5 +1,4 @@
 -- `through` meets its contract: what the three filters ensure, each put into the next; the count is a law of the definition (`Behind`).
--- Assumes nothing.
 use borrow.Author.Needs.{needs}
 use Rattle.filters.specs.Behind.{sentOf, sent}
 use Rattle.filters.proofs.through.Statement.{statement}

@@ -1,4 +1,4 @@
--- `unless` meets its contract: its two clauses. Assumes nothing.
+-- `unless` meets its contract: its two clauses.
 use borrow.Author.Needs.{needs}
 use Rattle.filters.proofs.unless.Statement.{statement}
 use Rattle.filters.proofs.unless.Tie as tie

@@ -1,4 +1,4 @@
--- `forms::filled` is safe: the part that is read to is as long as it is said to be. Assumes nothing.
+-- `forms::filled` is safe: the part that is read to is as long as it is said to be.
 use borrow.Author.Needs.{needs}
 use native.Mathlib.Omega.{arith}
 use lib.ListN.{length-take}

@@ -1,4 +1,4 @@
--- `forms::main` is safe and ends: the turns are counted down from a number that no run uses up. Assumes nothing.
+-- `forms::main` is safe and ends: the turns are counted down from a number that no run uses up.
 use mathlib.Core.Path.{_≡_}
 use lib.ListN.{length}
 use borrow.Author.Needs.{needs}

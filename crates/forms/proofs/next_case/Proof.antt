@@ -1,4 +1,4 @@
--- `forms::next_case` is safe: the case that is judged is as long as it is said to be. Assumes nothing.
+-- `forms::next_case` is safe: the case that is judged is as long as it is said to be.
 use borrow.Author.Needs.{needs}
 use native.Mathlib.Omega.{arith}
 use lib.ListN.{length-take}

@@ -1,4 +1,4 @@
--- `forms::pads_of` is safe and ends: one pad less is left at each turn. Assumes nothing.
+-- `forms::pads_of` is safe and ends: one pad less is left at each turn.
 use borrow.Author.Needs.{needs}
 use Rattle.forms.proofs.pads_of.Statement.{statement}
 use Rattle.forms.proofs.pads_of.Tie as tie

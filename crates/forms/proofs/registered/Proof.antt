@@ -1,4 +1,4 @@
--- `forms::registered` is safe: a fifth pad is not taken, so that 52 places more stand in the columns. Assumes nothing.
+-- `forms::registered` is safe: a fifth pad is not taken, so that 52 places more stand in the columns.
 use Prim.Native.Nat.{_≤_, _<_, _-_, _*_}
 use mathlib.Core.Path.{_≡_}
 use native.Mathlib.Omega.{arith}

@@ -1,4 +1,4 @@
--- `gather::converts_now` meets its contract: by which column holds. Assumes nothing.
+-- `gather::converts_now` meets its contract: by which column holds.
 use Rattle.rules.specs.Hub.{convertsIn}
 use borrow.Author.Needs.{needs}
 use Rattle.gather.proofs.converts_now.Statement.{statement}

@@ -1,5 +1,5 @@
--- `gather::find` meets its contract: what the reads at the place ensure. Assumes nothing.
-use Rattle.gather.specs.Sight.{foundAt}
+-- `gather::find` meets its contract: what the reads at the place ensure.
+use Rattle.gather.specs.EventPlaces.{foundAt}
 use borrow.Author.Needs.{needs}
 use Rattle.gather.proofs.find.Statement.{statement}
 use Rattle.gather.proofs.find.Tie as tie

@@ -1,4 +1,4 @@
--- `gather::flag_place` meets its contract: by the two tests. Assumes nothing.
+-- `gather::flag_place` meets its contract: by the two tests.
 use borrow.Author.Tests.{lt-ltb, le-ltb}
 use Rattle.rules.specs.Hub.{flagPlace}
 use borrow.Author.Needs.{needs}

@@ -1,4 +1,4 @@
--- `gather::hat_place` meets its contract: by whether the name is a hat's axis. Assumes nothing.
+-- `gather::hat_place` meets its contract: by whether the name is a hat's axis.
 use native.Mathlib.Omega.{arith}
 use Rattle.rules.specs.Hub.{hatPlaceOf}
 use borrow.Author.Needs.{needs}

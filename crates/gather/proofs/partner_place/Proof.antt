@@ -1,4 +1,4 @@
--- `gather::partner_place` meets its contract: by whether the axis has a partner. Assumes nothing.
+-- `gather::partner_place` meets its contract: by whether the axis has a partner.
 use native.Mathlib.Omega.{arith}
 use borrow.Author.Tests.{eq-eqb, ne-eqb}
 use Rattle.rules.specs.Hub.{partnerPlaceOf}

@@ -1,4 +1,4 @@
--- `gather::place_again` meets its contract: for the same pad and code the place is the one looked up before. Assumes nothing.
+-- `gather::place_again` meets its contract: for the same pad and code the place is the one looked up before.
 use borrow.Author.Needs.{needs}
 use Rattle.gather.proofs.place_again.Statement.{statement}
 use Rattle.gather.proofs.place_again.Tie as tie

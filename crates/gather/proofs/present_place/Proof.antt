@@ -1,4 +1,4 @@
--- `gather::present_place` meets its contract: by which names hold. Assumes nothing.
+-- `gather::present_place` meets its contract: by which names hold.
 use Rattle.rules.specs.Places.{presentNames}
 use borrow.Author.Needs.{needs}
 use Rattle.gather.proofs.present_place.Statement.{statement}

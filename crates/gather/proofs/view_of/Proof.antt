@@ -1,5 +1,5 @@
--- `gather::view_of` meets its contract: what the four reads ensure. Assumes nothing.
-use Rattle.gather.specs.Sight.{viewBy}
+-- `gather::view_of` meets its contract: what the four reads ensure.
+use Rattle.gather.specs.EventPlaces.{viewBy}
 use borrow.Author.Needs.{needs}
 use Rattle.gather.proofs.view_of.Statement.{statement}
 use Rattle.gather.proofs.view_of.Tie as tie

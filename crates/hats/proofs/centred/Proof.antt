@@ -1,4 +1,4 @@
--- `centred` meets its contract: the four clauses of `hatBy` for a value between the ends, by which directions are held. Assumes nothing.
+-- `centred` meets its contract: the four clauses of `hatBy` for a value between the ends, by which directions are held.
 use borrow.Author.Needs.{needs}
 use Rattle.rules.specs.Filters.{hatBy}
 use Rattle.hats.proofs.centred.Statement.{statement}

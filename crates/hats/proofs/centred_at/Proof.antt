@@ -1,4 +1,4 @@
--- `centred_at` meets its contract: the three events, put into the choices. Assumes nothing.
+-- `centred_at` meets its contract: the three events, put into the choices.
 use borrow.Author.Needs.{needs}
 use Rattle.hats.specs.Queued.{centredAt}
 use Rattle.hats.proofs.centred_at.Statement.{statement}

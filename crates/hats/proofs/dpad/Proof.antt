@@ -1,5 +1,4 @@
 -- `dpad` meets its contract: each arm of the match is the clause of the law book for its kind of event; the count is a law of the definition (`Counts`).
--- Assumes nothing.
 use borrow.Author.Needs.{needs}
 use Rattle.rules.specs.Filters.{dpadOf}
 use Rattle.hats.specs.Counts.{converted}

@@ -1,4 +1,4 @@
--- `hat` meets its contract: what `toward` and `centred` ensure, at the names and codes of the axis, is what the law book gives there (`Hats`). Assumes nothing.
+-- `hat` meets its contract: what `toward` and `centred` ensure, at the names and codes of the axis, is what the law book gives there (`Hats`).
 use borrow.Author.Needs.{needs}
 use Rattle.hats.proofs.Hats.{at-plus, at-minus, at-rest}
 use Rattle.hats.proofs.hat.Statement.{statement}

@@ -1,4 +1,4 @@
--- `hat_at` meets its contract: what `toward_at` and `centred_at` ensure, at the names and codes of the axis, by the two tests. Assumes nothing.
+-- `hat_at` meets its contract: what `toward_at` and `centred_at` ensure, at the names and codes of the axis, by the two tests.
 use borrow.Author.Needs.{needs}
 use Rattle.hats.specs.Queued.{hatAt}
 use Rattle.hats.proofs.hat_at.Statement.{statement}

@@ -1,4 +1,4 @@
--- `one_of` meets its contract: one choice put into the other. Assumes nothing.
+-- `one_of` meets its contract: one choice put into the other.
 use borrow.Author.Needs.{needs}
 use Rattle.hats.proofs.one_of.Statement.{statement}
 use Rattle.hats.proofs.one_of.Tie as tie

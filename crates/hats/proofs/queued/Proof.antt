@@ -1,4 +1,4 @@
--- `queued` meets its contract: each arm of the match is the clause of `typeAt` for its kind of event. Assumes nothing.
+-- `queued` meets its contract: each arm of the match is the clause of `typeAt` for its kind of event.
 use borrow.Author.Needs.{needs}
 use Rattle.hats.specs.Queued.{queuedAt}
 use Rattle.hats.proofs.Hats.{minus-one}

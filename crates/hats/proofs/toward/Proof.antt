@@ -1,4 +1,4 @@
--- `toward` meets its contract: the two clauses of `hatBy` for a value at an end, by whether the opposite is held. Assumes nothing.
+-- `toward` meets its contract: the two clauses of `hatBy` for a value at an end, by whether the opposite is held.
 use borrow.Author.Needs.{needs}
 use Rattle.rules.specs.Filters.{hatBy}
 use Rattle.hats.proofs.toward.Statement.{statement}

@@ -1,4 +1,4 @@
--- `toward_at` meets its contract: the three events, put into the choice. Assumes nothing.
+-- `toward_at` meets its contract: the three events, put into the choice.
 use borrow.Author.Needs.{needs}
 use Rattle.hats.specs.Queued.{towardAt}
 use Rattle.hats.proofs.toward_at.Statement.{statement}

@@ -1,5 +1,4 @@
 -- `layout::axis_element` meets its contract: an axis that fits has the limits that scaling asks. A signed field is read back from its bits.
--- Assumes nothing.
 use mathlib.Core.Bool.{true}
 use mathlib.Core.Path.{_≡_, _∙_, ap}
 use mir.Facts.{toZ-ofZ}

@@ -1,4 +1,4 @@
--- `layout::code_of` meets its contract: an element begins with its code. Assumes nothing.
+-- `layout::code_of` meets its contract: an element begins with its code.
 use borrow.Author.Needs.{needs}
 use Rattle.rules.specs.Sheets.{elementFields, elementOf}
 use Rattle.layout.proofs.code_of.Statement.{statement}

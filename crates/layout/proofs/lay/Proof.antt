@@ -1,4 +1,4 @@
--- `layout::lay` meets its contract. The invariant: the places laid and those left to lay are the whole; the counts stay small. Assumes nothing.
+-- `layout::lay` meets its contract. The invariant: the places laid and those left to lay are the whole; the counts stay small.
 use Prim.Native.Nat.{_≤_, _-_}
 use mathlib.Core.List.{_++_}
 use mathlib.Core.Path.{_≡_, refl, _∙_, ap}

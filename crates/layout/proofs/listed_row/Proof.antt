@@ -1,4 +1,4 @@
--- `layout::listed_row` meets its contract: a button keeps no element, an axis its own. Assumes nothing.
+-- `layout::listed_row` meets its contract: a button keeps no element, an axis its own.
 use borrow.Author.Needs.{needs}
 use borrow.Author.Tests.{eq-eqb, ne-eqb}
 use Rattle.rules.specs.Sheets.{elementButton}

@@ -1,4 +1,4 @@
--- `layout::name_given` meets its contract: each answer by the tests that led to it; past the list's end the definition reads 0. Assumes nothing.
+-- `layout::name_given` meets its contract: each answer by the tests that led to it; past the list's end the definition reads 0.
 use mathlib.Core.Path.{sym}
 use lib.ListN.{List·getD-eq-default}
 use borrow.Author.Needs.{needs}

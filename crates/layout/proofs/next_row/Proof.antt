@@ -1,4 +1,4 @@
--- `layout::next_row` meets its contract: each answer by the tests that led to it. An element that is next is one of the sheet's, so it fits. Assumes nothing.
+-- `layout::next_row` meets its contract: each answer by the tests that led to it. An element that is next is one of the sheet's, so it fits.
 use borrow.Author.Needs.{needs}
 use native.Mathlib.Omega.{arith}
 use mathlib.Core.Path.{sym, _∙_, ap}

@@ -1,4 +1,4 @@
--- `layout::rename` meets its contract. The invariant: naming the places that are left gives what the whole gives. Assumes nothing.
+-- `layout::rename` meets its contract. The invariant: naming the places that are left gives what the whole gives.
 use Prim.Native.Nat.{_+_, _≤_}
 use mathlib.Core.Path.{_≡_, refl, sym, _∙_, ap}
 use native.Mathlib.Omega.{arith}

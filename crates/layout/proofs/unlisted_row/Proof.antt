@@ -1,4 +1,4 @@
--- `layout::unlisted_row` meets its contract. Assumes nothing.
+-- `layout::unlisted_row` meets its contract.
 use borrow.Author.Needs.{needs}
 use Rattle.layout.proofs.unlisted_row.Statement.{statement}
 use Rattle.layout.proofs.unlisted_row.Tie as tie

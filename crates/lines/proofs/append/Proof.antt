@@ -1,5 +1,4 @@
 -- `lines::append` meets its contract. The invariant: the first i bytes of the text stand from the place on, every other byte is as it was.
--- Assumes nothing.
 use mathlib.Core.Path.{_≡_, refl, sym, ap, _∙_}
 use mathlib.Core.List.{List, _++_, append-assoc}
 use Prim.Native.Nat.{ℕ, suc, _+_, _≤_, _<_, _-_}

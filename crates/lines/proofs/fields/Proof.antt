@@ -1,4 +1,4 @@
--- `lines::fields` meets its contract. Assumes nothing.
+-- `lines::fields` meets its contract.
 use Rattle.rules.specs.Forms.{eventFields}
 use borrow.Author.Needs.{needs}
 use Rattle.lines.proofs.fields.Statement.{statement}

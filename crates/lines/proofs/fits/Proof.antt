@@ -1,4 +1,4 @@
--- `lines::fits` meets its contract. Assumes nothing.
+-- `lines::fits` meets its contract.
 use mathlib.Core.Path.{_≡_, sym}
 use Prim.Native.Nat.{_+_, _<_, _≤_}
 use native.Mathlib.Omega.{arith}

@@ -1,4 +1,4 @@
--- `lines::labelled` meets its contract: the label and the number are laid as one text. Assumes nothing.
+-- `lines::labelled` meets its contract: the label and the number are laid as one text.
 use Prim.Native.Nat.{_+_, _≤_, _<_}
 use native.Mathlib.Omega.{arith}
 use lib.ListN.{length}

@@ -1,4 +1,4 @@
--- `lines::line` meets its contract: its six texts are laid as one. Assumes nothing.
+-- `lines::line` meets its contract: its six texts are laid as one.
 use mathlib.Core.List.{append-assoc}
 use Prim.Native.Nat.{_+_, _≤_}
 use native.Mathlib.Omega.{arith}

@@ -1,4 +1,4 @@
--- `lines::lines` meets its contract. The invariant: the lines of the first i events are laid. Assumes nothing.
+-- `lines::lines` meets its contract. The invariant: the lines of the first i events are laid.
 use mathlib.Core.Path.{_≡_, refl, sym, ap, _∙_}
 use mathlib.Core.List.{List, _++_}
 use Prim.Native.Nat.{ℕ, _+_, _-_, _*_, _≤_, _<_}

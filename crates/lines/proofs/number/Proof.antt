@@ -1,4 +1,4 @@
--- `lines::number` meets its contract: the digits and the byte behind them are laid as one text. Assumes nothing.
+-- `lines::number` meets its contract: the digits and the byte behind them are laid as one text.
 use mathlib.Core.Path.{_∙_}
 use Prim.Native.Nat.{_^_, _<_}
 use native.Mathlib.Omega.{arith}

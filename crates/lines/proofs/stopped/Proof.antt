@@ -1,4 +1,4 @@
--- `lines::stopped` meets its contract: the word and its numbers are laid as one text. Assumes nothing.
+-- `lines::stopped` meets its contract: the word and its numbers are laid as one text.
 use mathlib.Core.List.{append-assoc}
 use Prim.Native.Nat.{_+_, _≤_}
 use native.Mathlib.Omega.{arith}

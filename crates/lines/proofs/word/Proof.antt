@@ -1,4 +1,4 @@
--- `lines::word` meets its contract: the tests go in the definition's order. Assumes nothing.
+-- `lines::word` meets its contract: the tests go in the definition's order.
 use borrow.Author.Tests.{eq-eqb, ne-eqb}
 use Rattle.lines.specs.Text.{wordOf}
 use borrow.Author.Needs.{needs}

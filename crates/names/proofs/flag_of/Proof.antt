@@ -1,4 +1,4 @@
--- `names::flag_of` meets its contract: each answer by the tests that led to it. Assumes nothing.
+-- `names::flag_of` meets its contract: each answer by the tests that led to it.
 use borrow.Author.Tests.{eq-eqb, ne-eqb}
 use Rattle.rules.specs.Names.{flagOf}
 use Rattle.names.proofs.flag_of.Statement.{statement}

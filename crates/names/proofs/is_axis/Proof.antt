@@ -1,4 +1,4 @@
--- `names::is_axis` meets its contract: below the first name, and from it on. Assumes nothing.
+-- `names::is_axis` meets its contract: below the first name, and from it on.
 use borrow.Author.Tests.{le-leb, lt-leb}
 use Rattle.rules.specs.Names.{isAxis}
 use Rattle.names.proofs.is_axis.Statement.{statement}

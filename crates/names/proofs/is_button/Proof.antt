@@ -1,4 +1,4 @@
--- `names::is_button` meets its contract: the code is the definition. Assumes nothing.
+-- `names::is_button` meets its contract: the code is the definition.
 use mathlib.Core.Path.{refl}
 use Rattle.rules.specs.Names.{isButton}
 use Rattle.names.proofs.is_button.Statement.{statement}

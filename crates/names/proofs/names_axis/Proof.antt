@@ -1,4 +1,4 @@
--- `names::names_axis` meets its contract: below the first name, and from it on. Assumes nothing.
+-- `names::names_axis` meets its contract: below the first name, and from it on.
 use borrow.Author.Tests.{le-leb, lt-leb}
 use Rattle.rules.specs.Names.{namesAxis}
 use Rattle.names.proofs.names_axis.Statement.{statement}

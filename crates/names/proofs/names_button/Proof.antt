@@ -1,4 +1,4 @@
--- `names::names_button` meets its contract: below the first name, and from it on. Assumes nothing.
+-- `names::names_button` meets its contract: below the first name, and from it on.
 use borrow.Author.Tests.{le-leb, lt-leb}
 use Rattle.rules.specs.Names.{namesButton}
 use Rattle.names.proofs.names_button.Statement.{statement}

@@ -1,4 +1,4 @@
--- `names::negative_code` meets its contract: each answer by its test. Assumes nothing.
+-- `names::negative_code` meets its contract: each answer by its test.
 use borrow.Author.Tests.{eq-eqb, ne-eqb}
 use Rattle.rules.specs.Names.{negativeCode}
 use Rattle.names.proofs.negative_code.Statement.{statement}

@@ -1,4 +1,4 @@
--- `names::negative_name` meets its contract: each answer by its test. Assumes nothing.
+-- `names::negative_name` meets its contract: each answer by its test.
 use borrow.Author.Tests.{eq-eqb, ne-eqb}
 use Rattle.rules.specs.Names.{negativeName}
 use Rattle.names.proofs.negative_name.Statement.{statement}

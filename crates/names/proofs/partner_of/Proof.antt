@@ -1,4 +1,4 @@
--- `names::partner_of` meets its contract: each answer by the tests that led to it. Assumes nothing.
+-- `names::partner_of` meets its contract: each answer by the tests that led to it.
 use borrow.Author.Tests.{eq-eqb, ne-eqb}
 use Rattle.rules.specs.Names.{partnerOf}
 use Rattle.names.proofs.partner_of.Statement.{statement}

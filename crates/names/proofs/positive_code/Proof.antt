@@ -1,4 +1,4 @@
--- `names::positive_code` meets its contract: each answer by its test. Assumes nothing.
+-- `names::positive_code` meets its contract: each answer by its test.
 use borrow.Author.Tests.{eq-eqb, ne-eqb}
 use Rattle.rules.specs.Names.{positiveCode}
 use Rattle.names.proofs.positive_code.Statement.{statement}

@@ -1,4 +1,4 @@
--- `names::positive_name` meets its contract: each answer by its test. Assumes nothing.
+-- `names::positive_name` meets its contract: each answer by its test.
 use borrow.Author.Tests.{eq-eqb, ne-eqb}
 use Rattle.rules.specs.Names.{positiveName}
 use Rattle.names.proofs.positive_name.Statement.{statement}

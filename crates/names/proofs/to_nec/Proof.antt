@@ -1,5 +1,5 @@
 -- `names::to_nec` meets its contract: the table's rule is a test at each of its twenty places, which the checker computes; past them the definition
--- adds nothing. Assumes nothing.
+-- adds nothing.
 use Prim.Native.Nat.{ℕ, _-_, _≤_}
 use mathlib.Core.Bool.{Bool}
 use mathlib.Core.List.{List, [], _∷_}

@@ -1,4 +1,4 @@
--- `pace::course_buffer` meets its contract, by a law: to count so many zeros would be too deep. Assumes nothing.
+-- `pace::course_buffer` meets its contract, by a law: to count so many zeros would be too deep.
 use Prim.Native.Nat.{ℕ}
 use mathlib.Core.Path.{sym}
 use lib.ListN.{length-replicate}

@@ -1,4 +1,4 @@
--- `pace::main` is safe and ends. Assumes nothing.
+-- `pace::main` is safe and ends.
 use native.Mathlib.Omega.{arith}
 use lib.ListN.{length-take}
 use borrow.Author.Needs.{needs}

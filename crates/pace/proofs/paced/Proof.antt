@@ -1,4 +1,4 @@
--- `pace::paced` is safe and ends: the rounds are counted down. Assumes nothing.
+-- `pace::paced` is safe and ends: the rounds are counted down.
 use Prim.Native.Nat.{_≤_}
 use mathlib.Core.Path.{_≡_}
 use lib.ListN.{length}

@@ -1,4 +1,4 @@
--- `pace::play` is safe and ends: each operation leaves fewer bytes. Assumes nothing.
+-- `pace::play` is safe and ends: each operation leaves fewer bytes.
 use Prim.Native.Nat.{_≤_, _-_}
 use mathlib.Core.Path.{_≡_}
 use lib.ListN.{length}

@@ -1,4 +1,4 @@
--- `pace::pumped` is safe: the out buffer is lent as far as it goes. Assumes nothing.
+-- `pace::pumped` is safe: the out buffer is lent as far as it goes.
 use native.Mathlib.Omega.{arith}
 use lib.ListN.{length-take}
 use borrow.Author.Needs.{needs}

@@ -1,4 +1,4 @@
--- `pad::bool_in` meets its contract: past the end the default is read. Assumes nothing.
+-- `pad::bool_in` meets its contract: past the end the default is read.
 use mathlib.Core.Bool.{false}
 use denote.Ref.{now}
 use borrow.Author.Needs.{needs}

@@ -1,4 +1,4 @@
--- `pad::byte_in` meets its contract: past the end the default is read. Assumes nothing.
+-- `pad::byte_in` meets its contract: past the end the default is read.
 use denote.Ref.{now}
 use borrow.Author.Needs.{needs}
 use Rattle.pad.proofs.Columns.{any-default, read-past}

@@ -1,5 +1,4 @@
 -- `pad::clear_in` meets its contract. The invariant: taking off what is left to take off gives what the whole gives, and the column keeps its length.
--- Assumes nothing.
 use mathlib.Core.Path.{_≡_, refl, sym, _∙_}
 use native.Mathlib.Omega.{arith}
 use lib.ListN.{length, length-set}

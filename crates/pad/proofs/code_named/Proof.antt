@@ -1,4 +1,4 @@
--- `pad::code_named` meets its contract: the name that stands at the code's place. Assumes nothing.
+-- `pad::code_named` meets its contract: the name that stands at the code's place.
 use borrow.Author.Needs.{needs}
 use Rattle.rules.specs.Places.{codeNamed}
 use Rattle.pad.proofs.code_named.Statement.{statement}

@@ -1,4 +1,4 @@
--- `pad::converts` meets its contract: each answer by the tests that led to it. Assumes nothing.
+-- `pad::converts` meets its contract: each answer by the tests that led to it.
 use borrow.Author.Needs.{needs}
 use borrow.Author.Tests.{eq-eqb, ne-eqb}
 use Rattle.rules.specs.Places.{convertsOf}

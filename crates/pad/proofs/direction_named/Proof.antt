@@ -1,4 +1,4 @@
--- `pad::direction_named` meets its contract: each answer by the codes that were looked at. Assumes nothing.
+-- `pad::direction_named` meets its contract: each answer by the codes that were looked at.
 use borrow.Author.Needs.{needs}
 use Rattle.rules.specs.Places.{directionNamed}
 use Rattle.pad.proofs.direction_named.Statement.{statement}

@@ -1,4 +1,4 @@
--- `pad::mark_in` meets its contract: past the end nothing is marked. Assumes nothing.
+-- `pad::mark_in` meets its contract: past the end nothing is marked.
 use denote.Ref.{now}
 use borrow.Author.Needs.{needs}
 use Rattle.pad.proofs.Columns.{mark-past}

@@ -1,4 +1,4 @@
--- `pad::named` meets its contract: the scan of a pad that there may be. Assumes nothing.
+-- `pad::named` meets its contract: the scan of a pad that there may be.
 use borrow.Author.Needs.{needs}
 use native.Mathlib.Omega.{arith}
 use borrow.Author.Tests.{le-ltb, lt-ltb}

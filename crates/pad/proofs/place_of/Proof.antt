@@ -1,4 +1,4 @@
--- `pad::place_of` meets its contract: the search's place is answered where the check of the definition passes. Assumes nothing.
+-- `pad::place_of` meets its contract: the search's place is answered where the check of the definition passes.
 use mathlib.Core.Path.{refl}
 use native.Mathlib.Omega.{arith}
 use borrow.Author.Needs.{needs}

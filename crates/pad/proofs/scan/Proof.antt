@@ -1,4 +1,4 @@
--- `pad::scan` meets its contract. The invariant: scanning what is left gives what the whole scan gives. Assumes nothing.
+-- `pad::scan` meets its contract. The invariant: scanning what is left gives what the whole scan gives.
 use Prim.Native.Nat.{_+_, _≤_}
 use mathlib.Core.Path.{_≡_, refl, sym, _∙_}
 use native.Mathlib.Omega.{arith}

@@ -1,4 +1,4 @@
--- `padlog::last` meets its contract. Assumes nothing.
+-- `padlog::last` meets its contract.
 use mathlib.Core.Path.{sym}
 use Prim.Native.Nat.{_+_, _≤_}
 use native.Mathlib.Omega.{arith}

@@ -1,4 +1,4 @@
--- `padlog::log` meets its contract, by what registration answers. Assumes nothing.
+-- `padlog::log` meets its contract, by what registration answers.
 use mathlib.Core.Path.{sym}
 use Prim.Native.Nat.{_-_, _≤_}
 use native.Mathlib.Omega.{arith}

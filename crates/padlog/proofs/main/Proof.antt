@@ -1,4 +1,4 @@
--- `padlog::main` is safe and ends: what `log` answers lies in the text. Assumes nothing.
+-- `padlog::main` is safe and ends: what `log` answers lies in the text.
 use mathlib.Core.Path.{sym}
 use lib.Seq.{length-take-le}
 use borrow.Author.Needs.{needs}

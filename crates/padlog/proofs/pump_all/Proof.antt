@@ -1,4 +1,4 @@
--- `padlog::pump_all` meets its contract. The invariant: what is printed and what the calls to come print make the whole text. Assumes nothing.
+-- `padlog::pump_all` meets its contract. The invariant: what is printed and what the calls to come print make the whole text.
 use Prim.Native.Nat.{ℕ, suc, _+_, _-_, _≤_, _<_}
 use mathlib.Core.Path.{_≡_, refl, sym, ap, subst, _∙_}
 use mathlib.Core.List.{List, _++_, append-nil}

@@ -1,4 +1,4 @@
--- `padlog::sheet_end` meets its contract. Assumes nothing.
+-- `padlog::sheet_end` meets its contract.
 use mathlib.Core.Path.{sym}
 use Prim.Native.Nat.{_+_, _≤_}
 use native.Mathlib.Nat.{min-eq-left, min-eq-right}

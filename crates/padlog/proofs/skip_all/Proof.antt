@@ -1,4 +1,4 @@
--- `padlog::skip_all` is safe and ends: the measure is the number of turns that are left. Assumes nothing.
+-- `padlog::skip_all` is safe and ends: the measure is the number of turns that are left.
 use native.Mathlib.Omega.{arith}
 use Rattle.padlog.proofs.skip_all.Statement.{statement}
 use Rattle.padlog.proofs.skip_all.Tie as tie

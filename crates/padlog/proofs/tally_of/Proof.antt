@@ -1,4 +1,4 @@
--- `padlog::tally_of` meets its contract, case by case. Assumes nothing.
+-- `padlog::tally_of` meets its contract, case by case.
 use borrow.Author.Needs.{needs}
 use Rattle.padlog.proofs.tally_of.Statement.{statement}
 use Rattle.padlog.proofs.tally_of.Tie as tie

@@ -11,11 +11,11 @@ returns c = no-marks _ _ _ _ _ _ _ (c .if1 .taken)
 wide-requires : tie.Need-wide-requires
 wide-requires c κs = search needs
 
-join-run-requires : tie.Need-join-run-requires
-join-run-requires c κs = search needs
+marks-cleared-requires : tie.Need-marks-cleared-requires
+marks-cleared-requires c κs = search needs
 
-join-run-requires-2 : tie.Need-join-run-requires-2
-join-run-requires-2 c κs = search needs
+marks-cleared-requires-2 : tie.Need-marks-cleared-requires-2
+marks-cleared-requires-2 c κs = search needs
 
 connect-requires : tie.Need-connect-requires
 connect-requires c κs = search needs
@@ -45,13 +45,13 @@ returns-2 : tie.Need-returns-2
 returns-2 c =
     let runs = c .before .before .before .before .before .before .before .before .before .before in
     let ep = runs .before .before .wide .ensures .0 in
-    let em = runs .before .join-run .ensures in
+    let em = runs .before .marks-cleared .ensures in
     record {
       connected-is = c .before .before .before .before .before .before .before .before .connect .ensures;
       renamed-is = c .before .before .before .before .before .before .forget .ensures;
-      touched-is = c .before .before .before .before .clear .ensures ∙ rw (em, ep);
-      moved-is = c .before .before .clear2 .ensures ∙ rw (em, ep);
-      flags-is = c .clear-flags .ensures ∙ rw (runs .join-run2 .ensures, ep);
+      hasbutton-is = c .before .before .before .before .clear .ensures ∙ rw (em, ep);
+      hasaxis-is = c .before .before .clear2 .ensures ∙ rw (em, ep);
+      flags-is = c .clear-flags .ensures ∙ rw (runs .marks-cleared2 .ensures, ep);
     }
 
 pub mark-joins-spec : {M : Type 1} → statement M
@@ -60,8 +60,8 @@ mark-joins-spec =
     (tie.spec
     returns
     wide-requires
-    join-run-requires
-    join-run-requires-2
+    marks-cleared-requires
+    marks-cleared-requires-2
     connect-requires
     forget-requires
     mul-clear

@@ -12,8 +12,8 @@ use Rattle.passing.proofs.pass.Tie as tie
 abbrev seen : tie.Start → Hub
 seen start =
     let a = start .args in
-    seenHub (now (a .codes)) (now (a .kinds)) (now (a .names)) (now (a .renames)) (now (a .renamed)) (now (a .converts)) (now (a .reconverts))
-    (now (a .touched)) (now (a .moved)) (elementsOf (now (a .values)) (now (a .marks))) (buttonsOf (now (a .values)) (now (a .times)) (now (a .marks)))
+    seenHub (now (a .codes)) (now (a .kinds)) (now (a .names)) (now (a .renames)) (now (a .renamed)) (now (a .converts)) (now (a .newconverts))
+    (now (a .hasbutton)) (now (a .hasaxis)) (elementsOf (now (a .values)) (now (a .marks))) (buttonsOf (now (a .values)) (now (a .times)) (now (a .marks)))
     (axesOf (now (a .values)) (now (a .times))) (now (a .flags))
 
 concerns-requires : tie.Need-concerns-requires
@@ -25,8 +25,8 @@ name-of-requires c κs = search needs
 code-of-requires : tie.Need-code-of-requires
 code-of-requires c κs = search needs
 
-sighted-again-requires : tie.Need-sighted-again-requires
-sighted-again-requires c κs = search needs
+event-places-requires : tie.Need-event-places-requires
+event-places-requires c κs = search needs
 
 view-in-requires : tie.Need-view-in-requires
 view-in-requires c κs = search needs
@@ -45,7 +45,7 @@ returns c =
     let sight = c .before .before .before .before .before .before .before in
     let start = sight .before .before .before .before .before .before in
     let a = start .args in
-    passes-seen (a .on) (seen start) (a .e) (sight .before .before .name-of .ensures) (sight .before .code-of .ensures) (sight .sighted-again .ensures)
+    passes-seen (a .on) (seen start) (a .e) (sight .before .before .name-of .ensures) (sight .before .code-of .ensures) (sight .event-places .ensures)
     (c .before .before .before .before .before .before .view-in .ensures) (c .before .before .before .before .before .through .ensures) (c .before .before .mark-flag .ensures) (c .mark-flag2 .ensures)
 
 unseen-requires : tie.Need-unseen-requires
@@ -64,7 +64,7 @@ pass-spec =
     concerns-requires
     name-of-requires
     code-of-requires
-    sighted-again-requires
+    event-places-requires
     view-in-requires
     through-requires
     mark-flag-requires

@@ -1,6 +1,6 @@
 -- `pump::pump` meets its contract. At the head of each loop the run that is left from where the pump stands is the whole run; a turn of the inner loop is
 -- one step of the law book, by the laws of `steps`, fed with what each call ensures; the push loop keeps the hub with the rest pushed. The measure is what is
--- left of the allowance. Assumes nothing.
+-- left of the allowance.
 mod Queue
 mod Loops
 mod Plain
@@ -10,7 +10,7 @@ use mathlib.Core.Path.{refl, sym, _∙_}
 use lib.ListN.{length, length-drop, length-take}
 use denote.Ref.{now}
 use native.Mathlib.Omega.{arith}
-use Rattle.gather.specs.Sight.{found-placed}
+use Rattle.gather.specs.EventPlaces.{found-placed}
 use Rattle.turn.specs.Turn.{first-small}
 use Rattle.steps.specs.Runs.{accepted, run-stops, run-refuses, run-goes, pump-refuses, pump-runs}
 use Rattle.steps.specs.Records.{taken-within, place-small, refusal-is}
@@ -22,7 +22,7 @@ use Rattle.pump.proofs.pump.Statement.{statement}
 use Rattle.pump.proofs.pump.Tie as tie
 use Rattle.pump.proofs.pump.Proof.Queue.{queueOf, queue-long, told-is}
 use Rattle.pump.proofs.pump.Proof.Loops.{Inv-loop3, μ-loop3, Inv-loop2, μ-loop2, Inv-loop, μ-loop, room, turns}
-use Rattle.pump.proofs.pump.Proof.Plain.{pump-refusal-requires, sub-stop, mul-stop, sub-stop-2, stop-requires, stop-answer-requires, same-length, look-requires, find-requires, refusal-requires, same-length-2, mul-element, element-copy-out-element, mul-b, element-copy-out-b, front-requires, mul-slot, element-copy-out-slot, wide-requires, join-run-requires, join-run-requires-2, connect-requires, forget-requires, mul-clear, clear-requires, mul-clear-2, clear-requires-2, mul-clear-flags, clear-flags-requires, head-after-requires, fewer-requires, name-of-requires, code-of-requires, mul-view-of, element-copy-out-view-of, mul-view-of-2, element-copy-out-view-of-2, mul-view-of-3, element-copy-out-view-of-3, mul-view-of-4, element-copy-out-view-of-4, mul-view-of-5, element-copy-out-view-of-5, mul-view-of-6, element-copy-out-view-of-6, mul-view-of-7, element-copy-out-view-of-7, view-of-requires, through-requires, mark-flag-requires, mark-flag-requires-2, first-pushed-requires, wide-requires-2, add-end, behind-requires, free-requires, slot-of-requires, mul-t132, element-set-from-h, longer-requires, add-x, loop3-less, kept-requires, code-of-requires-2, place-of-requires, bool-at-requires, bool-at-requires-2, mul-button-written, element-copy-out-button-written, button-written-requires, mul-t146, element-set-from-h-2, mul-axis-written, element-copy-out-axis-written, axis-written-requires, mul-t146-2, element-set-from-h-3, writes-button-requires, known-after-requires, writes-axis-requires, known-after-requires-2, mark-requires, mark-requires-2}
+use Rattle.pump.proofs.pump.Proof.Plain.{pump-refusal-requires, sub-stop, mul-stop, sub-stop-2, stop-requires, stop-answer-requires, same-length, next-record-requires, find-requires, refusal-requires, same-length-2, mul-element, element-copy-out-element, mul-b, element-copy-out-b, front-requires, mul-slot, element-copy-out-slot, wide-requires, marks-cleared-requires, marks-cleared-requires-2, connect-requires, forget-requires, mul-clear, clear-requires, mul-clear-2, clear-requires-2, mul-clear-flags, clear-flags-requires, head-after-requires, fewer-requires, name-of-requires, code-of-requires, mul-view-of, element-copy-out-view-of, mul-view-of-2, element-copy-out-view-of-2, mul-view-of-3, element-copy-out-view-of-3, mul-view-of-4, element-copy-out-view-of-4, mul-view-of-5, element-copy-out-view-of-5, mul-view-of-6, element-copy-out-view-of-6, mul-view-of-7, element-copy-out-view-of-7, view-of-requires, through-requires, mark-flag-requires, mark-flag-requires-2, first-pushed-requires, wide-requires-2, add-end, behind-requires, free-requires, slot-of-requires, mul-t132, element-set-from-h, longer-requires, add-x, loop3-less, kept-requires, code-of-requires-2, place-of-requires, bool-at-requires, bool-at-requires-2, mul-button-written, element-copy-out-button-written, button-written-requires, mul-t146, element-set-from-h-2, mul-axis-written, element-copy-out-axis-written, axis-written-requires, mul-t146-2, element-set-from-h-3, writes-button-requires, known-after-requires, writes-axis-requires, known-after-requires-2, mark-requires, mark-requires-2}
 
 returns : tie.Need-returns Inv-loop3 μ-loop3 Inv-loop2 μ-loop2 Inv-loop μ-loop
 returns c = let a = c .before .before .before .before .args in
@@ -50,13 +50,13 @@ returns-3 c = let l = c .before .before .before .before .before .before .before 
     let o = c .before .before .before .before .before .before .before .before .before .before .before .before .before .before .before .loop in
     let a = c .before .before .before .before .before .before .before .before .before .before .before .before .before .before .before .before .before .before .before .before .args in
     run-refuses (l .h) (now (a .batch)) (l .at) (o .out) (o .events) (l .steps) (l .left) (c .before .before .before .before .before .before .before .before .before .before .before .before .before .stop .ensures) (c .before .before .before .before .before .before .before .before .before .before .before .before .if2 .left)
-    (refusal-is (l .h) (now (a .batch)) (l .at) (c .before .before .before .before .before .before .before .before .before .before .before .look .ensures) (c .before .before .find .ensures .is) (c .before .refusal .ensures)) (c .if3 .taken)
+    (refusal-is (l .h) (now (a .batch)) (l .at) (c .before .before .before .before .before .before .before .before .before .before .before .next-record .ensures) (c .before .before .find .ensures .is) (c .before .refusal .ensures)) (c .if3 .taken)
     ∙ l .inv .0 .same ∙ o .inv .0 .same
     ∙ pump-runs (a .hub) (now (a .batch)) (a .place) (now (a .out)) (a .allowance) (c .before .before .before .before .before .before .before .before .before .before .before .before .before .before .before .before .before .pump-refusal .ensures) (c .before .before .before .before .before .before .before .before .before .before .before .before .before .before .before .before .if1 .left)
 
 take-requires : tie.Need-take-requires Inv-loop3 μ-loop3 Inv-loop2 μ-loop2 Inv-loop μ-loop
 take-requires c κs = let l = c .before .before .before .before .before .before .before .before .before .before .before .before .before .before .before .before .before .before .loop2 in
-    taken-within (l .h .waiting) (now (c .before .before .before .before .before .before .before .before .before .before .before .before .before .before .before .before .before .before .before .before .before .before .before .before .args .batch)) (l .at) (l .h .pads) (c .before .before .before .before .before .before .find .result .kind) (c .before .before .before .before .before .before .before .before .before .before .before .before .before .before .before .look .ensures) (c .before .before .before .before .before .refusal .ensures) (c .before .before .before .before .if3 .left)
+    taken-within (l .h .waiting) (now (c .before .before .before .before .before .before .before .before .before .before .before .before .before .before .before .before .before .before .before .before .before .before .before .before .args .batch)) (l .at) (l .h .pads) (c .before .before .before .before .before .before .find .result .kind) (c .before .before .before .before .before .before .before .before .before .before .before .before .before .before .before .next-record .ensures) (c .before .before .before .before .before .refusal .ensures) (c .before .before .before .before .if3 .left)
 
 place-after-requires : tie.Need-place-after-requires Inv-loop3 μ-loop3 Inv-loop2 μ-loop2 Inv-loop μ-loop
 place-after-requires c κs = let i = c .before .before .before .before .before .before .before .before .before .before .before .before .before .before .before .before .before .before .before .before .before .before .before .before .before .before .before .before .before .before .before .before .before .before .loop2 .inv .0 in omega arith
@@ -67,8 +67,8 @@ sub-left c = omega (arith, room (c .before .before .before .before .before .befo
 add-steps : tie.Need-add-steps Inv-loop3 μ-loop3 Inv-loop2 μ-loop2 Inv-loop μ-loop
 add-steps c = let i = c .before .before .before .before .before .before .before .before .before .before .before .before .before .before .before .before .before .before .before .before .before .before .before .before .before .before .before .before .before .before .before .before .before .before .before .loop2 .inv .0 in omega arith
 
-sighted-again-requires : tie.Need-sighted-again-requires Inv-loop3 μ-loop3 Inv-loop2 μ-loop2 Inv-loop μ-loop
-sighted-again-requires c κs = found-placed (c .before .before .before .before .before .before .before .before .before .before .before .before .before .before .before .before .before .before .before .before .before .before .before .before .before .before .before .before .before .before .before .before .before .before .before .before .before .find .ensures)
+event-places-requires : tie.Need-event-places-requires Inv-loop3 μ-loop3 Inv-loop2 μ-loop2 Inv-loop μ-loop
+event-places-requires c κs = found-placed (c .before .before .before .before .before .before .before .before .before .before .before .before .before .before .before .before .before .before .before .before .before .before .before .before .before .before .before .before .before .before .before .before .before .before .before .before .before .find .ensures)
 
 loop3-holds : tie.Need-loop3-holds Inv-loop3 μ-loop3 Inv-loop2 μ-loop2 Inv-loop μ-loop
 loop3-holds c = let n = c .wide2 .ensures .0 in
@@ -96,7 +96,7 @@ loop2-again c = let l = c .before .before .before .before .before .before .befor
     let i = l .inv .0 in
     let left = room (c .before .before .before .before .before .before .before .before .before .before .before .before .before .before .before .before .before .before .before .before .before .before .before .before .before .before .before .before .before .before .before .before .before .before .before .before .before .before .before .before .before .before .before .before .before .before .before .before .before .before .before .before .before .before .before .before .before .before .before .before .before .before .before .before .before .before .before .before .before .before .before .before .before .before) .2 in (
       record {
-        at-small = place-small (l .h .waiting) b (l .at) (l .h .pads) (c .before .before .before .before .before .before .before .before .before .before .before .before .before .before .before .before .before .before .before .before .before .before .before .before .before .before .before .before .before .before .before .before .before .before .before .before .before .before .before .before .before .before .before .before .before .before .before .before .before .before .before .before .before .before .before .before .before .before .before .before .before .before .before .before .find .result .kind) (c .before .before .before .before .before .before .before .before .before .before .before .before .before .before .before .before .before .before .before .before .before .before .before .before .before .before .before .before .before .before .before .before .before .before .before .before .before .before .before .before .before .before .before .before .before .before .before .before .before .before .before .before .before .before .before .before .before .before .before .before .before .before .before .before .before .before .before .before .before .before .before .before .before .look .ensures) (c .before .before .before .before .before .before .before .before .before .before .before .before .before .before .before .before .before .before .before .before .before .before .before .before .before .before .before .before .before .before .before .before .before .before .before .before .before .before .before .before .before .before .before .before .before .before .before .before .before .before .before .before .before .before .before .before .before .before .before .before .before .before .before .refusal .ensures) (c .before .before .before .before .before .before .before .before .before .before .before .before .before .before .before .before .before .before .before .before .before .before .before .before .before .before .before .before .before .before .before .before .before .before .before .before .before .before .before .before .before .before .before .before .before .before .before .before .before .before .before .before .before .before .before .before .before .before .before .before .before .before .if3 .left) (c .before .before .before .before .before .before .before .before .before .before .before .before .before .before .before .before .before .before .before .before .before .before .before .before .before .before .before .before .before .before .before .before .before .before .before .before .before .before .before .before .before .place-after .ensures) (i .at-small);
+        at-small = place-small (l .h .waiting) b (l .at) (l .h .pads) (c .before .before .before .before .before .before .before .before .before .before .before .before .before .before .before .before .before .before .before .before .before .before .before .before .before .before .before .before .before .before .before .before .before .before .before .before .before .before .before .before .before .before .before .before .before .before .before .before .before .before .before .before .before .before .before .before .before .before .before .before .before .before .before .before .find .result .kind) (c .before .before .before .before .before .before .before .before .before .before .before .before .before .before .before .before .before .before .before .before .before .before .before .before .before .before .before .before .before .before .before .before .before .before .before .before .before .before .before .before .before .before .before .before .before .before .before .before .before .before .before .before .before .before .before .before .before .before .before .before .before .before .before .before .before .before .before .before .before .before .before .before .before .next-record .ensures) (c .before .before .before .before .before .before .before .before .before .before .before .before .before .before .before .before .before .before .before .before .before .before .before .before .before .before .before .before .before .before .before .before .before .before .before .before .before .before .before .before .before .before .before .before .before .before .before .before .before .before .before .before .before .before .before .before .before .before .before .before .before .before .before .refusal .ensures) (c .before .before .before .before .before .before .before .before .before .before .before .before .before .before .before .before .before .before .before .before .before .before .before .before .before .before .before .before .before .before .before .before .before .before .before .before .before .before .before .before .before .before .before .before .before .before .before .before .before .before .before .before .before .before .before .before .before .before .before .before .before .before .if3 .left) (c .before .before .before .before .before .before .before .before .before .before .before .before .before .before .before .before .before .before .before .before .before .before .before .before .before .before .before .before .before .before .before .before .before .before .before .before .before .before .before .before .before .place-after .ensures) (i .at-small);
         batch-small = i .batch-small;
         out-small = i .out-small;
         room = i .room;
@@ -104,8 +104,8 @@ loop2-again c = let l = c .before .before .before .before .before .before .befor
         same =
             sym
             (run-goes (l .h) b (l .at) (o .out) (o .events) (l .steps) (l .left) (c .before .before .before .before .before .before .before .before .before .before .before .before .before .before .before .before .before .before .before .before .before .before .before .before .before .before .before .before .before .before .before .before .before .before .before .before .before .before .before .before .before .before .before .before .before .before .before .before .before .before .before .before .before .before .before .before .before .before .before .before .before .before .before .before .before .before .before .before .before .before .before .before .before .before .before .stop .ensures) (c .before .before .before .before .before .before .before .before .before .before .before .before .before .before .before .before .before .before .before .before .before .before .before .before .before .before .before .before .before .before .before .before .before .before .before .before .before .before .before .before .before .before .before .before .before .before .before .before .before .before .before .before .before .before .before .before .before .before .before .before .before .before .before .before .before .before .before .before .before .before .before .before .before .before .if2 .left)
-            (refusal-is (l .h) b (l .at) (c .before .before .before .before .before .before .before .before .before .before .before .before .before .before .before .before .before .before .before .before .before .before .before .before .before .before .before .before .before .before .before .before .before .before .before .before .before .before .before .before .before .before .before .before .before .before .before .before .before .before .before .before .before .before .before .before .before .before .before .before .before .before .before .before .before .before .before .before .before .before .before .before .before .look .ensures) (c .before .before .before .before .before .before .before .before .before .before .before .before .before .before .before .before .before .before .before .before .before .before .before .before .before .before .before .before .before .before .before .before .before .before .before .before .before .before .before .before .before .before .before .before .before .before .before .before .before .before .before .before .before .before .before .before .before .before .before .before .before .before .before .before .find .ensures .is) (c .before .before .before .before .before .before .before .before .before .before .before .before .before .before .before .before .before .before .before .before .before .before .before .before .before .before .before .before .before .before .before .before .before .before .before .before .before .before .before .before .before .before .before .before .before .before .before .before .before .before .before .before .before .before .before .before .before .before .before .before .before .before .before .refusal .ensures)) (c .before .before .before .before .before .before .before .before .before .before .before .before .before .before .before .before .before .before .before .before .before .before .before .before .before .before .before .before .before .before .before .before .before .before .before .before .before .before .before .before .before .before .before .before .before .before .before .before .before .before .before .before .before .before .before .before .before .before .before .before .before .before .if3 .left)
-            (step-skips (l .h) b (l .at) (o .out) (o .events) (l .steps) (c .before .before .before .before .before .before .before .before .before .before .before .before .before .before .before .before .before .before .before .before .before .before .before .before .before .before .before .before .before .before .before .before .before .before .before .before .before .before .before .before .before .before .before .before .before .before .before .before .before .before .before .before .before .before .before .before .before .before .before .before .before .before .before .before .before .before .before .before .before .before .before .before .before .look .ensures) (turns (c .before .before .before)) (c .before .before .before .before .before .before .before .before .before .before .before .before .before .before .before .before .before .before .before .before .before .before .before .before .before .before .before .before .before .before .before .before .before .before .before .before .before .before .before .before .before .place-after .ensures)
+            (refusal-is (l .h) b (l .at) (c .before .before .before .before .before .before .before .before .before .before .before .before .before .before .before .before .before .before .before .before .before .before .before .before .before .before .before .before .before .before .before .before .before .before .before .before .before .before .before .before .before .before .before .before .before .before .before .before .before .before .before .before .before .before .before .before .before .before .before .before .before .before .before .before .before .before .before .before .before .before .before .before .before .next-record .ensures) (c .before .before .before .before .before .before .before .before .before .before .before .before .before .before .before .before .before .before .before .before .before .before .before .before .before .before .before .before .before .before .before .before .before .before .before .before .before .before .before .before .before .before .before .before .before .before .before .before .before .before .before .before .before .before .before .before .before .before .before .before .before .before .before .before .find .ensures .is) (c .before .before .before .before .before .before .before .before .before .before .before .before .before .before .before .before .before .before .before .before .before .before .before .before .before .before .before .before .before .before .before .before .before .before .before .before .before .before .before .before .before .before .before .before .before .before .before .before .before .before .before .before .before .before .before .before .before .before .before .before .before .before .before .refusal .ensures)) (c .before .before .before .before .before .before .before .before .before .before .before .before .before .before .before .before .before .before .before .before .before .before .before .before .before .before .before .before .before .before .before .before .before .before .before .before .before .before .before .before .before .before .before .before .before .before .before .before .before .before .before .before .before .before .before .before .before .before .before .before .before .before .if3 .left)
+            (step-skips (l .h) b (l .at) (o .out) (o .events) (l .steps) (c .before .before .before .before .before .before .before .before .before .before .before .before .before .before .before .before .before .before .before .before .before .before .before .before .before .before .before .before .before .before .before .before .before .before .before .before .before .before .before .before .before .before .before .before .before .before .before .before .before .before .before .before .before .before .before .before .before .before .before .before .before .before .before .before .before .before .before .before .before .before .before .before .before .next-record .ensures) (turns (c .before .before .before)) (c .before .before .before .before .before .before .before .before .before .before .before .before .before .before .before .before .before .before .before .before .before .before .before .before .before .before .before .before .before .before .before .before .before .before .before .before .before .before .before .before .before .place-after .ensures)
             (sym (c .before .kept .ensures) ∙ c .if4 .left)))
             ∙ i .same;
       },
@@ -145,7 +145,7 @@ loop-again c = let l = c .before .before .before .before .before .before .before
     let wrote = c .before .before .write-event .ensures in
     let long = put-length (o .out) (o .events) (r .0) z wrote in (
       record {
-        at-small = place-small (l .h .waiting) b (l .at) (l .h .pads) (c .before .before .before .before .before .before .before .before .before .before .before .before .before .before .before .before .before .before .before .before .before .before .before .before .before .before .before .before .before .before .before .before .before .before .before .before .before .before .before .before .before .before .before .before .before .before .before .before .before .before .before .before .before .before .before .before .before .before .before .before .before .before .before .before .before .before .before .before .before .before .before .before .before .before .before .before .before .before .before .before .before .before .before .before .before .before .before .before .before .before .find .result .kind) (c .before .before .before .before .before .before .before .before .before .before .before .before .before .before .before .before .before .before .before .before .before .before .before .before .before .before .before .before .before .before .before .before .before .before .before .before .before .before .before .before .before .before .before .before .before .before .before .before .before .before .before .before .before .before .before .before .before .before .before .before .before .before .before .before .before .before .before .before .before .before .before .before .before .before .before .before .before .before .before .before .before .before .before .before .before .before .before .before .before .before .before .before .before .before .before .before .before .before .before .look .ensures) (c .before .before .before .before .before .before .before .before .before .before .before .before .before .before .before .before .before .before .before .before .before .before .before .before .before .before .before .before .before .before .before .before .before .before .before .before .before .before .before .before .before .before .before .before .before .before .before .before .before .before .before .before .before .before .before .before .before .before .before .before .before .before .before .before .before .before .before .before .before .before .before .before .before .before .before .before .before .before .before .before .before .before .before .before .before .before .before .before .before .refusal .ensures) (c .before .before .before .before .before .before .before .before .before .before .before .before .before .before .before .before .before .before .before .before .before .before .before .before .before .before .before .before .before .before .before .before .before .before .before .before .before .before .before .before .before .before .before .before .before .before .before .before .before .before .before .before .before .before .before .before .before .before .before .before .before .before .before .before .before .before .before .before .before .before .before .before .before .before .before .before .before .before .before .before .before .before .before .before .before .before .before .before .if3 .left) (c .before .before .before .before .before .before .before .before .before .before .before .before .before .before .before .before .before .before .before .before .before .before .before .before .before .before .before .before .before .before .before .before .before .before .before .before .before .before .before .before .before .before .before .before .before .before .before .before .before .before .before .before .before .before .before .before .before .before .before .before .before .before .before .before .before .before .before .place-after .ensures) (i .at-small);
+        at-small = place-small (l .h .waiting) b (l .at) (l .h .pads) (c .before .before .before .before .before .before .before .before .before .before .before .before .before .before .before .before .before .before .before .before .before .before .before .before .before .before .before .before .before .before .before .before .before .before .before .before .before .before .before .before .before .before .before .before .before .before .before .before .before .before .before .before .before .before .before .before .before .before .before .before .before .before .before .before .before .before .before .before .before .before .before .before .before .before .before .before .before .before .before .before .before .before .before .before .before .before .before .before .before .before .find .result .kind) (c .before .before .before .before .before .before .before .before .before .before .before .before .before .before .before .before .before .before .before .before .before .before .before .before .before .before .before .before .before .before .before .before .before .before .before .before .before .before .before .before .before .before .before .before .before .before .before .before .before .before .before .before .before .before .before .before .before .before .before .before .before .before .before .before .before .before .before .before .before .before .before .before .before .before .before .before .before .before .before .before .before .before .before .before .before .before .before .before .before .before .before .before .before .before .before .before .before .before .before .next-record .ensures) (c .before .before .before .before .before .before .before .before .before .before .before .before .before .before .before .before .before .before .before .before .before .before .before .before .before .before .before .before .before .before .before .before .before .before .before .before .before .before .before .before .before .before .before .before .before .before .before .before .before .before .before .before .before .before .before .before .before .before .before .before .before .before .before .before .before .before .before .before .before .before .before .before .before .before .before .before .before .before .before .before .before .before .before .before .before .before .before .before .before .refusal .ensures) (c .before .before .before .before .before .before .before .before .before .before .before .before .before .before .before .before .before .before .before .before .before .before .before .before .before .before .before .before .before .before .before .before .before .before .before .before .before .before .before .before .before .before .before .before .before .before .before .before .before .before .before .before .before .before .before .before .before .before .before .before .before .before .before .before .before .before .before .before .before .before .before .before .before .before .before .before .before .before .before .before .before .before .before .before .before .before .before .before .if3 .left) (c .before .before .before .before .before .before .before .before .before .before .before .before .before .before .before .before .before .before .before .before .before .before .before .before .before .before .before .before .before .before .before .before .before .before .before .before .before .before .before .before .before .before .before .before .before .before .before .before .before .before .before .before .before .before .before .before .before .before .before .before .before .before .before .before .before .before .before .place-after .ensures) (i .at-small);
         batch-small = i .batch-small;
         out-small = rw long (i .out-small);
         room = rw long (omega (arith, r .0));
@@ -153,8 +153,8 @@ loop-again c = let l = c .before .before .before .before .before .before .before
         same =
             sym
             (run-goes (l .h) b (l .at) (o .out) (o .events) (l .steps) (l .left) (c .before .before .before .before .before .before .before .before .before .before .before .before .before .before .before .before .before .before .before .before .before .before .before .before .before .before .before .before .before .before .before .before .before .before .before .before .before .before .before .before .before .before .before .before .before .before .before .before .before .before .before .before .before .before .before .before .before .before .before .before .before .before .before .before .before .before .before .before .before .before .before .before .before .before .before .before .before .before .before .before .before .before .before .before .before .before .before .before .before .before .before .before .before .before .before .before .before .before .before .before .before .stop .ensures) (c .before .before .before .before .before .before .before .before .before .before .before .before .before .before .before .before .before .before .before .before .before .before .before .before .before .before .before .before .before .before .before .before .before .before .before .before .before .before .before .before .before .before .before .before .before .before .before .before .before .before .before .before .before .before .before .before .before .before .before .before .before .before .before .before .before .before .before .before .before .before .before .before .before .before .before .before .before .before .before .before .before .before .before .before .before .before .before .before .before .before .before .before .before .before .before .before .before .before .before .before .if2 .left)
-            (refusal-is (l .h) b (l .at) (c .before .before .before .before .before .before .before .before .before .before .before .before .before .before .before .before .before .before .before .before .before .before .before .before .before .before .before .before .before .before .before .before .before .before .before .before .before .before .before .before .before .before .before .before .before .before .before .before .before .before .before .before .before .before .before .before .before .before .before .before .before .before .before .before .before .before .before .before .before .before .before .before .before .before .before .before .before .before .before .before .before .before .before .before .before .before .before .before .before .before .before .before .before .before .before .before .before .before .before .look .ensures) (c .before .before .before .before .before .before .before .before .before .before .before .before .before .before .before .before .before .before .before .before .before .before .before .before .before .before .before .before .before .before .before .before .before .before .before .before .before .before .before .before .before .before .before .before .before .before .before .before .before .before .before .before .before .before .before .before .before .before .before .before .before .before .before .before .before .before .before .before .before .before .before .before .before .before .before .before .before .before .before .before .before .before .before .before .before .before .before .before .before .before .find .ensures .is) (c .before .before .before .before .before .before .before .before .before .before .before .before .before .before .before .before .before .before .before .before .before .before .before .before .before .before .before .before .before .before .before .before .before .before .before .before .before .before .before .before .before .before .before .before .before .before .before .before .before .before .before .before .before .before .before .before .before .before .before .before .before .before .before .before .before .before .before .before .before .before .before .before .before .before .before .before .before .before .before .before .before .before .before .before .before .before .before .before .before .refusal .ensures)) (c .before .before .before .before .before .before .before .before .before .before .before .before .before .before .before .before .before .before .before .before .before .before .before .before .before .before .before .before .before .before .before .before .before .before .before .before .before .before .before .before .before .before .before .before .before .before .before .before .before .before .before .before .before .before .before .before .before .before .before .before .before .before .before .before .before .before .before .before .before .before .before .before .before .before .before .before .before .before .before .before .before .before .before .before .before .before .before .before .if3 .left)
-            (step-keeps (l .h) b (l .at) (o .out) (o .events) (l .steps) (c .before .before .before .before .before .before .before .before .before .before .before .before .before .before .before .before .before .before .before .before .before .before .before .before .before .before .before .before .before .before .before .before .before .before .before .before .before .before .before .before .before .before .before .before .before .before .before .before .before .before .before .before .before .before .before .before .before .before .before .before .before .before .before .before .before .before .before .before .before .before .before .before .before .before .before .before .before .before .before .before .before .before .before .before .before .before .before .before .before .before .before .before .before .before .before .before .before .before .before .look .ensures) (turns (c .before .before .before .before .before .before .before .before .before .before .before .before .before .before .before .before .before .before .before .before .before .before .before .before .before .before .before .before .before)) (c .before .before .before .before .before .before .before .before .before .before .before .before .before .before .before .before .before .before .before .before .before .before .before .before .before .before .before .before .before .before .before .before .before .before .before .before .before .before .before .before .before .before .before .before .before .before .before .before .before .before .before .before .before .before .before .before .before .before .before .before .before .before .before .before .before .before .before .place-after .ensures)
+            (refusal-is (l .h) b (l .at) (c .before .before .before .before .before .before .before .before .before .before .before .before .before .before .before .before .before .before .before .before .before .before .before .before .before .before .before .before .before .before .before .before .before .before .before .before .before .before .before .before .before .before .before .before .before .before .before .before .before .before .before .before .before .before .before .before .before .before .before .before .before .before .before .before .before .before .before .before .before .before .before .before .before .before .before .before .before .before .before .before .before .before .before .before .before .before .before .before .before .before .before .before .before .before .before .before .before .before .before .next-record .ensures) (c .before .before .before .before .before .before .before .before .before .before .before .before .before .before .before .before .before .before .before .before .before .before .before .before .before .before .before .before .before .before .before .before .before .before .before .before .before .before .before .before .before .before .before .before .before .before .before .before .before .before .before .before .before .before .before .before .before .before .before .before .before .before .before .before .before .before .before .before .before .before .before .before .before .before .before .before .before .before .before .before .before .before .before .before .before .before .before .before .before .before .find .ensures .is) (c .before .before .before .before .before .before .before .before .before .before .before .before .before .before .before .before .before .before .before .before .before .before .before .before .before .before .before .before .before .before .before .before .before .before .before .before .before .before .before .before .before .before .before .before .before .before .before .before .before .before .before .before .before .before .before .before .before .before .before .before .before .before .before .before .before .before .before .before .before .before .before .before .before .before .before .before .before .before .before .before .before .before .before .before .before .before .before .before .before .refusal .ensures)) (c .before .before .before .before .before .before .before .before .before .before .before .before .before .before .before .before .before .before .before .before .before .before .before .before .before .before .before .before .before .before .before .before .before .before .before .before .before .before .before .before .before .before .before .before .before .before .before .before .before .before .before .before .before .before .before .before .before .before .before .before .before .before .before .before .before .before .before .before .before .before .before .before .before .before .before .before .before .before .before .before .before .before .before .before .before .before .before .before .if3 .left)
+            (step-keeps (l .h) b (l .at) (o .out) (o .events) (l .steps) (c .before .before .before .before .before .before .before .before .before .before .before .before .before .before .before .before .before .before .before .before .before .before .before .before .before .before .before .before .before .before .before .before .before .before .before .before .before .before .before .before .before .before .before .before .before .before .before .before .before .before .before .before .before .before .before .before .before .before .before .before .before .before .before .before .before .before .before .before .before .before .before .before .before .before .before .before .before .before .before .before .before .before .before .before .before .before .before .before .before .before .before .before .before .before .before .before .before .before .before .next-record .ensures) (turns (c .before .before .before .before .before .before .before .before .before .before .before .before .before .before .before .before .before .before .before .before .before .before .before .before .before .before .before .before .before)) (c .before .before .before .before .before .before .before .before .before .before .before .before .before .before .before .before .before .before .before .before .before .before .before .before .before .before .before .before .before .before .before .before .before .before .before .before .before .before .before .before .before .before .before .before .before .before .before .before .before .before .before .before .before .before .before .before .before .before .before .before .before .before .before .before .before .before .before .place-after .ensures)
             (sym (c .before .before .before .before .before .before .before .before .before .before .before .before .before .before .before .before .before .before .before .before .before .before .before .before .before .before .before .kept .ensures) ∙ c .before .before .before .before .before .before .before .before .before .before .before .before .before .before .before .before .before .before .before .before .before .before .before .before .before .before .if4 .taken)
             (update-is (u .updates) u z (c .before .before .before .before .before .before .before .before .before .before .before .before .before .before .before .before .before .before .before .before .before .before .before .code-of2 .ensures) (c .before .before .before .before .before .before .before .before .before .before .before .before .before .before .before .before .before .before .before .before .before .before .place-of .ensures .is) (c .before .before .before .before .before .before .before .before .before .before .before .before .before .before .before .before .before .before .before .bool-at .ensures) (c .before .before .before .before .before .before .before .before .before .before .before .before .before .before .before .before .bool-at2 .ensures) (c .before .before .before .before .before .before .before .before .before .before .before .before .before .before .button-written .ensures) (c .before .before .before .before .before .before .before .before .before .before .before .before .axis-written .ensures) (c .before .before .before .before .before .before .before .before .before .before .before .writes-button .ensures) (c .before .before .before .before .before .before .before .before .before .before .known-after .ensures) (c .before .before .before .before .before .before .before .before .before .writes-axis .ensures) (c .before .before .before .before .before .before .before .before .known-after2 .ensures) (c .before .before .before .before .before .before .mark .ensures) (c .before .before .before .before .mark2 .ensures))
             (put-is (o .out) (o .events) (r .0) z wrote)))
@@ -184,7 +184,7 @@ pump-spec =
     stop-answer-requires
     same-length
     returns-2
-    look-requires
+    next-record-requires
     find-requires
     refusal-requires
     same-length-2
@@ -198,8 +198,8 @@ pump-spec =
     element-copy-out-slot
     take-requires
     wide-requires
-    join-run-requires
-    join-run-requires-2
+    marks-cleared-requires
+    marks-cleared-requires-2
     connect-requires
     forget-requires
     mul-clear
@@ -215,7 +215,7 @@ pump-spec =
     add-steps
     name-of-requires
     code-of-requires
-    sighted-again-requires
+    event-places-requires
     mul-view-of
     element-copy-out-view-of
     mul-view-of-2

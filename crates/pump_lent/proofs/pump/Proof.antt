@@ -12,7 +12,7 @@ use lib.ListN.{length, length-drop, length-take}
 use denote.Ref.{now}
 use native.Mathlib.Omega.{arith}
 use Rattle.rules.specs.declared.Hub.{Hub}
-use Rattle.gather.specs.Sight.{found-placed}
+use Rattle.gather.specs.EventPlaces.{found-placed}
 use Rattle.turn.specs.Turn.{first-small, part}
 use Rattle.steps.specs.Runs.{accepted, run-stops, run-refuses, pump-refuses}
 use Rattle.steps.specs.Records.{taken-within}
@@ -27,7 +27,7 @@ use Rattle.pump_lent.proofs.pump.Tie as tie
 use Rattle.pump_lent.proofs.pump.Proof.Loops.{Inv-loop3, μ-loop3, Inv-loop2, μ-loop2, Inv-loop, μ-loop, At}
 use Rattle.pump_lent.proofs.pump.Proof.Landmarks as mark
 use Rattle.pump_lent.proofs.pump.Proof.Turns.{turns}
-use Rattle.pump_lent.proofs.pump.Proof.Plain.{pump-refusal-requires, sub-stop, mul-stop, sub-stop-2, stop-requires, stop-answer-requires, same-length, look-requires, find-requires, refusal-requires, same-length-2, mark-joins-requires, head-after-requires, fewer-requires, first-pushed-requires, wide-requires, add-end, behind-requires, add-x, loop3-less, kept-requires, code-of-requires, place-of-requires, push-requires, update-requires}
+use Rattle.pump_lent.proofs.pump.Proof.Plain.{pump-refusal-requires, sub-stop, mul-stop, sub-stop-2, stop-requires, stop-answer-requires, same-length, next-record-requires, find-requires, refusal-requires, same-length-2, mark-joins-requires, head-after-requires, fewer-requires, first-pushed-requires, wide-requires, add-end, behind-requires, add-x, loop3-less, kept-requires, code-of-requires, place-of-requires, push-requires, update-requires}
 
 returns : At tie.Need-returns
 returns c =
@@ -94,7 +94,7 @@ take-requires c κs =
     let f = mark.found n in
     let i = mark.inner-of n in
     let l = i .loop2 in (
-      taken-within (l .h .waiting) (mark.batch-in (mark.outer i)) (l .at) (l .h .pads) (f .find .result .kind) (mark.looked f .look .ensures)
+      taken-within (l .h .waiting) (mark.batch-in (mark.outer i)) (l .at) (l .h .pads) (f .find .result .kind) (mark.looked f .next-record .ensures)
           (n .refusal .ensures) (y .if3 .left),
       f .find .ensures .small,
     )
@@ -139,7 +139,7 @@ loop3-again c =
       omega arith,
       i .1,
       ap (λ (u : Hub). queuedHub u (part es (x + 1) end))
-          (pushed-hub (m .loop3 .h) (mark.listed-in (mark.start o)) (mark.touched-by j) (mark.moved-by j) (o .loop .marks) (c .push .ensures))
+          (pushed-hub (m .loop3 .h) (mark.listed-in (mark.start o)) (mark.hasbutton-by j) (mark.hasaxis-by j) (o .loop .marks) (c .push .ensures))
           ∙ sym (push-more (mark.hub-pushing m) es x end more few is) ∙ i .2,
     )
 
@@ -169,7 +169,7 @@ loop2-again c =
             sym
             (mark.goes-on y
             (step-skips (mark.hub-in (mark.inner g)) (mark.batch-in (mark.outer (mark.inner g))) (l .at) (o .out) (o .events) (l .steps)
-            (mark.looked (mark.found (mark.judged y)) .look .ensures) (turns t) (p .place-after .ensures) (sym (c .before .kept .ensures) ∙ c .if4 .left)))
+            (mark.looked (mark.found (mark.judged y)) .next-record .ensures) (turns t) (p .place-after .ensures) (sym (c .before .kept .ensures) ∙ c .if4 .left)))
             ∙ i .same;
       },
       omega (arith, l .inv .1),
@@ -229,7 +229,7 @@ loop-again c =
             sym
             (mark.goes-on y
             (step-keeps (mark.hub-in (mark.inner g)) (mark.batch-in o) (l .at) (o .loop .out) (o .loop .events) (l .steps)
-            (mark.looked (mark.found (mark.judged y)) .look .ensures) (turns t) (p .place-after .ensures) (sym (k .before .kept .ensures) ∙ k .if4 .taken)
+            (mark.looked (mark.found (mark.judged y)) .next-record .ensures) (turns t) (p .place-after .ensures) (sym (k .before .kept .ensures) ∙ k .if4 .taken)
             (updated-hub (m .loop3 .h) (mark.listed-in (mark.start o)) (m .loop3 .queuebytes) (m .loop3 .queuecodes) (w .update .ensures)
             ∙ updated-of (u .updates) u z (mark.place w .before .code-of .ensures) (mark.place w .place-of .ensures .is))
             (put-is (o .loop .out) (o .loop .events) (r .room) z wrote)))
@@ -259,7 +259,7 @@ pump-spec =
     stop-answer-requires
     same-length
     returns-2
-    look-requires
+    next-record-requires
     find-requires
     refusal-requires
     same-length-2

@@ -1,4 +1,4 @@
--- `queries::axis_at` meets its contract: what the calls ensure, put together. Assumes nothing.
+-- `queries::axis_at` meets its contract: what the calls ensure, put together.
 use borrow.Author.Needs.{needs}
 use Rattle.queries.proofs.axis_at.Statement.{statement}
 use Rattle.queries.proofs.axis_at.Tie as tie

@@ -1,4 +1,4 @@
--- `queries::axis_data` meets its contract: what the calls ensure, put together. Assumes nothing.
+-- `queries::axis_data` meets its contract: what the calls ensure, put together.
 use Rattle.rules.specs.Queries.{axisByName}
 use borrow.Author.Needs.{needs}
 use Rattle.queries.proofs.axis_data.Statement.{statement}

@@ -1,4 +1,4 @@
--- `queries::axis_data_by_code` meets its contract: what the calls ensure, put together. Assumes nothing.
+-- `queries::axis_data_by_code` meets its contract: what the calls ensure, put together.
 use Rattle.rules.specs.Queries.{axisByCode}
 use borrow.Author.Needs.{needs}
 use Rattle.queries.proofs.axis_data_by_code.Statement.{statement}

@@ -1,4 +1,4 @@
--- `queries::axis_or_absent` meets its contract: by the number. Assumes nothing.
+-- `queries::axis_or_absent` meets its contract: by the number.
 use Rattle.queries.specs.Refused.{axis-refused}
 use Rattle.queries.proofs.axis_or_absent.Statement.{statement}
 use Rattle.queries.proofs.axis_or_absent.Tie as tie

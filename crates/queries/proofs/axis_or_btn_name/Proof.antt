@@ -1,4 +1,4 @@
--- `queries::axis_or_btn_name` meets its contract: what the calls ensure, put together. Assumes nothing.
+-- `queries::axis_or_btn_name` meets its contract: what the calls ensure, put together.
 use Rattle.queries.specs.Refused.{unless}
 use Rattle.rules.specs.Queries.{nameByCode}
 use borrow.Author.Needs.{needs}

@@ -1,4 +1,4 @@
--- `queries::button_at` meets its contract: what the calls ensure, put together. Assumes nothing.
+-- `queries::button_at` meets its contract: what the calls ensure, put together.
 use borrow.Author.Needs.{needs}
 use Rattle.queries.proofs.button_at.Statement.{statement}
 use Rattle.queries.proofs.button_at.Tie as tie

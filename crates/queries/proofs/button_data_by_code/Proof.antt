@@ -1,4 +1,4 @@
--- `queries::button_data_by_code` meets its contract: what the calls ensure, put together. Assumes nothing.
+-- `queries::button_data_by_code` meets its contract: what the calls ensure, put together.
 use Rattle.rules.specs.Queries.{buttonByCode}
 use borrow.Author.Needs.{needs}
 use Rattle.queries.proofs.button_data_by_code.Statement.{statement}

@@ -1,4 +1,4 @@
--- `queries::button_or_absent` meets its contract: by the number. Assumes nothing.
+-- `queries::button_or_absent` meets its contract: by the number.
 use Rattle.queries.specs.Refused.{button-refused}
 use Rattle.queries.proofs.button_or_absent.Statement.{statement}
 use Rattle.queries.proofs.button_or_absent.Tie as tie

@@ -1,4 +1,4 @@
--- `queries::button_place` meets its contract: by whether an element has the name. Assumes nothing.
+-- `queries::button_place` meets its contract: by whether an element has the name.
 use borrow.Author.Tests.{lt-ltb, le-ltb}
 use Rattle.queries.specs.Button.{buttonPlaceOf}
 use borrow.Author.Needs.{needs}

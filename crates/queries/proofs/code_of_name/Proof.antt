@@ -1,4 +1,4 @@
--- `queries::code_of_name` meets its contract: what the calls ensure, put together. Assumes nothing.
+-- `queries::code_of_name` meets its contract: what the calls ensure, put together.
 use Rattle.rules.specs.Queries.{codeByName}
 use borrow.Author.Needs.{needs}
 use Rattle.queries.proofs.code_of_name.Statement.{statement}

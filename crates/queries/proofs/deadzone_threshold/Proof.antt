@@ -1,4 +1,4 @@
--- `queries::deadzone_threshold` meets its contract: what the calls ensure, put together. Assumes nothing.
+-- `queries::deadzone_threshold` meets its contract: what the calls ensure, put together.
 use Rattle.rules.specs.Queries.{thresholdByCode}
 use borrow.Author.Needs.{needs}
 use Rattle.queries.proofs.deadzone_threshold.Statement.{statement}

@@ -1,4 +1,4 @@
--- `queries::is_connected` meets its contract: what the calls ensure, put together. Assumes nothing.
+-- `queries::is_connected` meets its contract: what the calls ensure, put together.
 use Rattle.rules.specs.Queries.{connectedOf}
 use borrow.Author.Needs.{needs}
 use Rattle.queries.proofs.is_connected.Statement.{statement}

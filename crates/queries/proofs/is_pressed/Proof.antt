@@ -1,4 +1,4 @@
--- `queries::is_pressed` meets its contract: what the calls ensure, put together. Assumes nothing.
+-- `queries::is_pressed` meets its contract: what the calls ensure, put together.
 use Rattle.rules.specs.Queries.{pressedByName, buttonPlace}
 use Rattle.queries.specs.Button.{buttonPlaceOf}
 use borrow.Author.Needs.{needs}

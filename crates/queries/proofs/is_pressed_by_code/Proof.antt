@@ -1,4 +1,4 @@
--- `queries::is_pressed_by_code` meets its contract: what the calls ensure, put together. Assumes nothing.
+-- `queries::is_pressed_by_code` meets its contract: what the calls ensure, put together.
 use Rattle.rules.specs.Queries.{pressedByCode}
 use borrow.Author.Needs.{needs}
 use Rattle.queries.proofs.is_pressed_by_code.Statement.{statement}

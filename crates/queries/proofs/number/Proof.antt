@@ -1,4 +1,4 @@
--- `queries::number` meets its contract: by the number. Assumes nothing.
+-- `queries::number` meets its contract: by the number.
 use Rattle.queries.specs.Refused.{number-refused}
 use Rattle.queries.proofs.number.Statement.{statement}
 use Rattle.queries.proofs.number.Tie as tie

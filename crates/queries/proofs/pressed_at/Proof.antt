@@ -1,4 +1,4 @@
--- `queries::pressed_at` meets its contract: what the calls ensure, put together. Assumes nothing.
+-- `queries::pressed_at` meets its contract: what the calls ensure, put together.
 use Rattle.rules.specs.Hub.{pressedAt}
 use borrow.Author.Needs.{needs}
 use Rattle.queries.proofs.pressed_at.Statement.{statement}

@@ -1,4 +1,4 @@
--- `queries::truth` meets its contract: by the number. Assumes nothing.
+-- `queries::truth` meets its contract: by the number.
 use Rattle.queries.specs.Refused.{truth-refused}
 use Rattle.queries.proofs.truth.Statement.{statement}
 use Rattle.queries.proofs.truth.Tie as tie

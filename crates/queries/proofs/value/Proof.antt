@@ -1,4 +1,4 @@
--- `queries::value` meets its contract: what the calls ensure, put together. Assumes nothing.
+-- `queries::value` meets its contract: what the calls ensure, put together.
 use Rattle.rules.specs.Queries.{valueByName}
 use borrow.Author.Needs.{needs}
 use Rattle.queries.proofs.value.Statement.{statement}

@@ -1,4 +1,4 @@
--- `queries::value_at` meets its contract: what the calls ensure, put together. Assumes nothing.
+-- `queries::value_at` meets its contract: what the calls ensure, put together.
 use Rattle.rules.specs.Hub.{valueAt}
 use borrow.Author.Needs.{needs}
 use Rattle.queries.proofs.value_at.Statement.{statement}

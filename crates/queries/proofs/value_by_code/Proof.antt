@@ -1,4 +1,4 @@
--- `queries::value_by_code` meets its contract: what the calls ensure, put together. Assumes nothing.
+-- `queries::value_by_code` meets its contract: what the calls ensure, put together.
 use Rattle.rules.specs.Queries.{valueByCode}
 use borrow.Author.Needs.{needs}
 use Rattle.queries.proofs.value_by_code.Statement.{statement}

@@ -1,4 +1,4 @@
--- `queries::value_or_absent` meets its contract: by the number. Assumes nothing.
+-- `queries::value_or_absent` meets its contract: by the number.
 use Rattle.queries.specs.Refused.{value-refused}
 use Rattle.queries.proofs.value_or_absent.Statement.{statement}
 use Rattle.queries.proofs.value_or_absent.Tie as tie

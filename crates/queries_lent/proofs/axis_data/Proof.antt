@@ -15,7 +15,7 @@ axis-at-requires c κs = search needs
 
 returns : tie.Need-returns
 unfolding axisByName
-returns c codes kinds queuebytes queuecodes touched marks =
+returns c codes kinds queuebytes queuecodes hasbutton marks =
     rw (
       c .axis-at .ensures,
       c .before .present-place .ensures .is,

@@ -15,7 +15,7 @@ axis-at-requires c κs = search needs
 
 returns : tie.Need-returns
 unfolding axisByCode
-returns c kinds names renames queuebytes queuecodes touched marks = rw (c .axis-at .ensures, c .before .place-of .ensures .is, c .before .before .pad-refusal .ensures)
+returns c kinds names renames queuebytes queuecodes hasbutton marks = rw (c .axis-at .ensures, c .before .place-of .ensures .is, c .before .before .pad-refusal .ensures)
 
 pub axis-data-by-code-spec : {M : Type 1} → statement M
 axis-data-by-code-spec =

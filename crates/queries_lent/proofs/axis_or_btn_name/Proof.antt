@@ -22,7 +22,7 @@ number-requires c κs = search needs
 
 returns : tie.Need-returns
 unfolding nameByCode
-returns c kinds times queuebytes queuecodes touched moved marks values =
+returns c kinds times queuebytes queuecodes hasbutton hasaxis marks values =
     rw (
       c .number .ensures,
       c .before .present-name .ensures,

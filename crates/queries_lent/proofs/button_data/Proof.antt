@@ -15,7 +15,7 @@ button-at-requires c κs = search needs
 
 returns : tie.Need-returns
 unfolding buttonByName
-returns c codes kinds queuebytes queuecodes moved =
+returns c codes kinds queuebytes queuecodes hasaxis =
     rw (
       c .button-at .ensures,
       c .before .present-place .ensures .is,

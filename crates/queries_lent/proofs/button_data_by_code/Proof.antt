@@ -15,7 +15,7 @@ button-at-requires c κs = search needs
 
 returns : tie.Need-returns
 unfolding buttonByCode
-returns c kinds names renames queuebytes queuecodes moved = rw (c .button-at .ensures, c .before .place-of .ensures .is, c .before .before .pad-refusal .ensures)
+returns c kinds names renames queuebytes queuecodes hasaxis = rw (c .button-at .ensures, c .before .place-of .ensures .is, c .before .before .pad-refusal .ensures)
 
 pub button-data-by-code-spec : {M : Type 1} → statement M
 button-data-by-code-spec =

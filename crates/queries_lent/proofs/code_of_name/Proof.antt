@@ -18,7 +18,7 @@ number-requires c κs = search needs
 
 returns : tie.Need-returns
 unfolding codeByName
-returns c kinds times queuebytes queuecodes touched moved marks values =
+returns c kinds times queuebytes queuecodes hasbutton hasaxis marks values =
     rw (
       c .number .ensures,
       c .before .code-at .ensures,

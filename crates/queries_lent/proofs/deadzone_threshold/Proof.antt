@@ -21,7 +21,7 @@ value-or-absent-requires c κs = search needs
 
 returns : tie.Need-returns
 unfolding thresholdByCode
-returns c names renames times queuebytes queuecodes touched moved =
+returns c names renames times queuebytes queuecodes hasbutton hasaxis =
     rw (
       c .value-or-absent .ensures,
       c .before .element-at .ensures,

@@ -16,7 +16,7 @@ pressed-at-requires c κs = search needs
 
 returns : tie.Need-returns
 unfolding pressedByName buttonPlaceOf pressedAt
-returns c kinds queuebytes queuecodes moved =
+returns c kinds queuebytes queuecodes hasaxis =
     rw (
       c .pressed-at .ensures,
       c .before .button-place .ensures .is,

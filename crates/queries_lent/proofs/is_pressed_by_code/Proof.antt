@@ -16,7 +16,7 @@ pressed-at-requires c κs = search needs
 
 returns : tie.Need-returns
 unfolding pressedByCode pressedAt
-returns c kinds names renames queuebytes queuecodes moved = rw (c .pressed-at .ensures, c .before .place-of .ensures .is, c .before .before .pad-refusal .ensures)
+returns c kinds names renames queuebytes queuecodes hasaxis = rw (c .pressed-at .ensures, c .before .place-of .ensures .is, c .before .before .pad-refusal .ensures)
 
 pub is-pressed-by-code-spec : {M : Type 1} → statement M
 is-pressed-by-code-spec =

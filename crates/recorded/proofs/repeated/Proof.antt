@@ -1,4 +1,4 @@
--- `repeated` is safe: what the event requires of the record is what `due` answered of it. Assumes nothing.
+-- `repeated` is safe: what the event requires of the record is what `due` answered of it.
 use borrow.Author.Needs.{needs}
 use mathlib.Core.Path.{sym, _∙_}
 use Rattle.recorded.proofs.repeated.Statement.{statement}

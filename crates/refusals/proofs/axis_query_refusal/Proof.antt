@@ -1,4 +1,4 @@
--- `refusals::axis_query_refusal` meets its contract: what the calls ensure, put together. Assumes nothing.
+-- `refusals::axis_query_refusal` meets its contract: what the calls ensure, put together.
 use Rattle.rules.specs.Refusals.{axisQueryRefusal}
 use borrow.Author.Needs.{needs}
 use Rattle.refusals.proofs.axis_query_refusal.Statement.{statement}

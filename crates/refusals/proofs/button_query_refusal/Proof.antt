@@ -1,4 +1,4 @@
--- `refusals::button_query_refusal` meets its contract: what the calls ensure, put together. Assumes nothing.
+-- `refusals::button_query_refusal` meets its contract: what the calls ensure, put together.
 use Rattle.rules.specs.Refusals.{buttonQueryRefusal}
 use borrow.Author.Needs.{needs}
 use Rattle.refusals.proofs.button_query_refusal.Statement.{statement}

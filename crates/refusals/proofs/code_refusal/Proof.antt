@@ -1,4 +1,4 @@
--- `refusals::code_refusal` meets its contract: what the calls ensure, put together. Assumes nothing.
+-- `refusals::code_refusal` meets its contract: what the calls ensure, put together.
 use Rattle.rules.specs.Refusals.{codeRefusal}
 use borrow.Author.Needs.{needs}
 use Rattle.refusals.proofs.code_refusal.Statement.{statement}

@@ -1,4 +1,4 @@
--- `refusals::element_refusal` meets its contract: what the calls ensure, put together. Assumes nothing.
+-- `refusals::element_refusal` meets its contract: what the calls ensure, put together.
 use Rattle.rules.specs.Refusals.{elementRefusal}
 use borrow.Author.Needs.{needs}
 use Rattle.refusals.proofs.element_refusal.Statement.{statement}

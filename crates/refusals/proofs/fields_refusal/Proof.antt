@@ -1,4 +1,4 @@
--- `refusals::fields_refusal` meets its contract: what the calls ensure, put together. Assumes nothing.
+-- `refusals::fields_refusal` meets its contract: what the calls ensure, put together.
 use mir.Syntax.{w32}
 use native.Mathlib.Omega.{arith}
 use mir.Facts.{toZ-ofZ}

@@ -1,4 +1,4 @@
--- `refusals::first` meets its contract: the first number, where it is one. Assumes nothing.
+-- `refusals::first` meets its contract: the first number, where it is one.
 use borrow.Author.Tests.{eq-eqb, ne-eqb}
 use Rattle.refusals.proofs.first.Statement.{statement}
 use Rattle.refusals.proofs.first.Tie as tie

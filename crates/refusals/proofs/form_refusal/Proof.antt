@@ -1,4 +1,4 @@
--- `refusals::form_refusal` meets its contract: what the calls ensure, put together. Assumes nothing.
+-- `refusals::form_refusal` meets its contract: what the calls ensure, put together.
 use Rattle.rules.specs.Refusals.{formRefusal}
 use borrow.Author.Needs.{needs}
 use Rattle.refusals.proofs.form_refusal.Statement.{statement}

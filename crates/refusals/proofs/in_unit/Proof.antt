@@ -1,4 +1,4 @@
--- `refusals::in_unit` meets its contract: what the calls ensure, put together. Assumes nothing.
+-- `refusals::in_unit` meets its contract: what the calls ensure, put together.
 use Rattle.rules.specs.Refusals.{inUnit}
 use borrow.Author.Needs.{needs}
 use Rattle.refusals.proofs.in_unit.Statement.{statement}

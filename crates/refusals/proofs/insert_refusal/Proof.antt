@@ -1,4 +1,4 @@
--- `refusals::insert_refusal` meets its contract: what the calls ensure, put together. Assumes nothing.
+-- `refusals::insert_refusal` meets its contract: what the calls ensure, put together.
 use Rattle.rules.specs.Refusals.{insertRefusal}
 use borrow.Author.Needs.{needs}
 use Rattle.refusals.proofs.insert_refusal.Statement.{statement}

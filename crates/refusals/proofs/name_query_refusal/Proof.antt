@@ -1,4 +1,4 @@
--- `refusals::name_query_refusal` meets its contract: what the calls ensure, put together. Assumes nothing.
+-- `refusals::name_query_refusal` meets its contract: what the calls ensure, put together.
 use Rattle.rules.specs.Refusals.{nameQueryRefusal}
 use borrow.Author.Needs.{needs}
 use Rattle.refusals.proofs.name_query_refusal.Statement.{statement}

@@ -1,4 +1,4 @@
--- `refusals::named_refusal` meets its contract: what the calls ensure, put together. Assumes nothing.
+-- `refusals::named_refusal` meets its contract: what the calls ensure, put together.
 use borrow.Author.Needs.{needs}
 use Rattle.refusals.proofs.named_refusal.Statement.{statement}
 use Rattle.refusals.proofs.named_refusal.Tie as tie

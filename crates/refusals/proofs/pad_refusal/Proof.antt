@@ -1,4 +1,4 @@
--- `refusals::pad_refusal` meets its contract: what the calls ensure, put together. Assumes nothing.
+-- `refusals::pad_refusal` meets its contract: what the calls ensure, put together.
 use borrow.Author.Needs.{needs}
 use Rattle.refusals.proofs.pad_refusal.Statement.{statement}
 use Rattle.refusals.proofs.pad_refusal.Tie as tie

@@ -1,4 +1,4 @@
--- `refusals::pump_refusal` meets its contract: what the calls ensure, put together. Assumes nothing.
+-- `refusals::pump_refusal` meets its contract: what the calls ensure, put together.
 use Rattle.rules.specs.Refusals.{pumpRefusal}
 use borrow.Author.Needs.{needs}
 use Rattle.refusals.proofs.pump_refusal.Statement.{statement}

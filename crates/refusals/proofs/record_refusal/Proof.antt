@@ -1,4 +1,4 @@
--- `refusals::record_refusal` meets its contract: what the calls ensure, put together. Assumes nothing.
+-- `refusals::record_refusal` meets its contract: what the calls ensure, put together.
 use Rattle.rules.specs.Refusals.{recordRefusal}
 use borrow.Author.Needs.{needs}
 use Rattle.refusals.proofs.record_refusal.Statement.{statement}

@@ -1,4 +1,4 @@
--- `refusals::repeat_refusal` meets its contract: what the calls ensure, put together. Assumes nothing.
+-- `refusals::repeat_refusal` meets its contract: what the calls ensure, put together.
 use Rattle.rules.specs.Refusals.{repeatRefusal}
 use borrow.Author.Needs.{needs}
 use Rattle.refusals.proofs.repeat_refusal.Statement.{statement}

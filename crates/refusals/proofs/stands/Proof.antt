@@ -1,4 +1,4 @@
--- `refusals::stands` meets its contract: what the calls ensure, put together. Assumes nothing.
+-- `refusals::stands` meets its contract: what the calls ensure, put together.
 use Rattle.rules.specs.Refusals.{standsOf}
 use borrow.Author.Needs.{needs}
 use Rattle.refusals.proofs.stands.Statement.{statement}

@@ -1,4 +1,4 @@
--- `refusals::thresholds_refusal` meets its contract: what the calls ensure, put together. Assumes nothing.
+-- `refusals::thresholds_refusal` meets its contract: what the calls ensure, put together.
 use Rattle.rules.specs.Refusals.{thresholdsRefusal}
 use borrow.Author.Needs.{needs}
 use Rattle.refusals.proofs.thresholds_refusal.Statement.{statement}

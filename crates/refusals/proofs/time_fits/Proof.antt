@@ -1,4 +1,4 @@
--- `refusals::time_fits` meets its contract: the comparison is the definition's. Assumes nothing.
+-- `refusals::time_fits` meets its contract: the comparison is the definition's.
 use mathlib.Core.Path.{refl}
 use Rattle.rules.specs.Refusals.{timeFits}
 use Rattle.refusals.proofs.time_fits.Statement.{statement}

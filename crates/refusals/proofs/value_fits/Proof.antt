@@ -1,4 +1,4 @@
--- `refusals::value_fits` meets its contract: the comparison is the definition's. Assumes nothing.
+-- `refusals::value_fits` meets its contract: the comparison is the definition's.
 use mathlib.Core.Path.{refl}
 use Rattle.rules.specs.Refusals.{valueFits}
 use Rattle.refusals.proofs.value_fits.Statement.{statement}

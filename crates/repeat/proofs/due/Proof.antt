@@ -1,4 +1,4 @@
--- `due` meets its contract: the four tests in the order of the definition. Assumes nothing.
+-- `due` meets its contract: the four tests in the order of the definition.
 use borrow.Author.Needs.{needs}
 use borrow.Author.Tests.{not-true, not-false, le-leb, lt-leb}
 use Rattle.rules.specs.Repeat.{dueOf}

@@ -1,4 +1,4 @@
--- `due_at` meets its contract: the pad first, then the record. Assumes nothing.
+-- `due_at` meets its contract: the pad first, then the record.
 use borrow.Author.Needs.{needs}
 use Rattle.repeat.proofs.due_at.Statement.{statement}
 use Rattle.repeat.proofs.due_at.Tie as tie

@@ -1,6 +1,5 @@
 -- `first_due` meets its contract: a walk of its MIR, by hand. The records lie in a local, are lent to `scan` for a lifetime that the walk makes, and are taken back when the call is over.
 -- All that the walk knows of `scan` is that it meets its contract, which says of the lent run what `first_due` says of the array.
--- Assumes nothing.
 use mathlib.Core.Path.{_≡_, refl, sym}
 use mathlib.Core.Bool.{Bool}
 use mathlib.Core.List.{List, [], _∷_}
@@ -87,9 +86,9 @@ module _ {M : Type 1} (𝓤 : URA M) (H : Heap 𝓤) (A : Atoms 𝓤) (at-mem : 
   Scan = tripleOf 𝓤 H A g.signature (g.spec 𝓤 H A at-mem run)
 
 module _ {M : Type 1} (𝓤 : URA M) (H : Heap 𝓤) (A : Atoms 𝓤) (W : Given 𝓤 H A) (at-mem : Memory → SProp 𝓤) (run : Routine → Fun 𝓤) (κ : Lft) (q : Share)
-    (connected touched : RefT (List Bool)) (ys : List ButtonData) (after every clock : ℕ) (are : Is Records ys (array-vals vals ys)) (after< : Fits after) (every< : Fits every) (clock< : Fits clock) where
+    (connected hasbutton : RefT (List Bool)) (ys : List ButtonData) (after every clock : ℕ) (are : Is Records ys (array-vals vals ys)) (after< : Fits after) (every< : Fits every) (clock< : Fits clock) where
   abbrev Answer : ℕ → Type 0
-  Answer = Scanned (now connected) (now touched) ys after every clock
+  Answer = Scanned (now connected) (now hasbutton) ys after every clock
 
   abbrev mach : Val
   mach = only (array-vals vals ys)
@@ -98,7 +97,7 @@ module _ {M : Type 1} (𝓤 : URA M) (H : Heap 𝓤) (A : Atoms 𝓤) (W : Given
   OwnsConnected = ShrRef (named 0) κ Pads .own connected (ptr-vals connected)
 
   abbrev OwnsTouched : Fml
-  OwnsTouched = ShrRef (named 0) κ Places .own touched (ptr-vals touched)
+  OwnsTouched = ShrRef (named 0) κ Places .own hasbutton (ptr-vals hasbutton)
 
   abbrev OwnsRecords : Fml
   OwnsRecords = Records .own ys (mach ∷ [])
@@ -121,10 +120,10 @@ module _ {M : Type 1} (𝓤 : URA M) (H : Heap 𝓤) (A : Atoms 𝓤) (W : Given
     OwnsRun = ShrSlice (named 1) (α ∷ []) Record .own run-of (slice-vals run-of)
 
     abbrev passed : Vals g.signature (κ, ((α ∷ []), tt))
-    passed = (ptr-vals connected, (ptr-vals touched, (slice-vals run-of, (uint-vals w64 after, (uint-vals w64 every, (uint-vals w64 clock, tt))))))
+    passed = (ptr-vals connected, (ptr-vals hasbutton, (slice-vals run-of, (uint-vals w64 after, (uint-vals w64 every, (uint-vals w64 clock, tt))))))
 
     abbrev given : Args g.signature (κ, ((α ∷ []), tt))
-    given = (connected, (touched, (run-of, (after, (every, (clock, tt))))))
+    given = (connected, (hasbutton, (run-of, (after, (every, (clock, tt))))))
 
     abbrev callee : Scan 𝓤 H A at-mem run .Ghost
     callee = (((κ, ((α ∷ []), tt)), (q, (fullShare, tt)), tt, given, passed), tt)
@@ -137,7 +136,7 @@ module _ {M : Type 1} (𝓤 : URA M) (H : Heap 𝓤) (A : Atoms 𝓤) (W : Given
     goes =
         qed W (‵ (flft κ q) ∷ ‵ (flft (α ∷ []) fullShare) ∷ ‵ OwnsConnected ∷ ‵ OwnsTouched ∷ ‵ OwnsRun ∷ []) ∵
         move ! (2 ∷ []) $ use1 W (‵ OwnsConnected ⊛ ‵ OwnsConnected) (shr-copy 𝓤 H A W (named 0) κ Pads .twice connected (ptr-vals connected)) $ split ! $
-        move ! (4 ∷ []) $ use1 W (‵ OwnsTouched ⊛ ‵ OwnsTouched) (shr-copy 𝓤 H A W (named 0) κ Places .twice touched (ptr-vals touched)) $ split ! $
+        move ! (4 ∷ []) $ use1 W (‵ OwnsTouched ⊛ ‵ OwnsTouched) (shr-copy 𝓤 H A W (named 0) κ Places .twice hasbutton (ptr-vals hasbutton)) $ split ! $
         -- [touched; touched; connected; connected; the token; the run's token; the run]
         nothing ! $ number ! clock clock< $ number ! every every< $ number ! after after< $
         move ! (7 ∷ 0 ∷ []) $ fjoin ! $ move ! (1 ∷ 0 ∷ []) $ fjoin ! $ move ! (2 ∷ 0 ∷ []) $ fjoin ! $
@@ -150,10 +149,10 @@ module _ {M : Type 1} (𝓤 : URA M) (H : Heap 𝓤) (A : Atoms 𝓤) (W : Given
 
   -- ---- the exit
   abbrev x : Args f.signature (κ, tt)
-  x = (connected, (touched, (ys, (after, (every, (clock, tt))))))
+  x = (connected, (hasbutton, (ys, (after, (every, (clock, tt))))))
 
   abbrev at : Vals f.signature (κ, tt)
-  at = (ptr-vals connected, (ptr-vals touched, (mach ∷ [], (uint-vals w64 after, (uint-vals w64 every, (uint-vals w64 clock, tt))))))
+  at = (ptr-vals connected, (ptr-vals hasbutton, (mach ∷ [], (uint-vals w64 after, (uint-vals w64 every, (uint-vals w64 clock, tt))))))
 
   abbrev rows : List RattleType
   rows = ShrRef (named 0) κ Pads ∷ ShrRef (named 0) κ Places ∷ Records ∷ u64 ∷ u64 ∷ u64 ∷ []

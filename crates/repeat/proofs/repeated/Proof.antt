@@ -1,4 +1,4 @@
--- `repeated` meets its contract: the record is due, so its stamp and its wait together are no later than the clock, and the sum fits. Assumes nothing.
+-- `repeated` meets its contract: the record is due, so its stamp and its wait together are no later than the clock, and the sum fits.
 use borrow.Author.Needs.{needs}
 use Rattle.rules.specs.Repeat.{repeatedOf}
 use native.Mathlib.Omega.{arith}

@@ -1,6 +1,5 @@
 -- `scan` meets its contract: a walk of its MIR, by hand. At each turn the lent run is looked into, the record at the place is taken out of the row, copied and put back, and `due_at` is asked of the copy.
 -- The loop's variable is a place before which none is due: what the places from there on give is what all of them give. All that the walk knows of `due_at` is that it meets its contract.
--- Assumes nothing.
 use mathlib.Core.Path.{_≡_, refl, sym, _∙_, ap, subst}
 use mathlib.Core.Bool.{Bool, true, false, not}
 use mathlib.Core.List.{List, [], _∷_}
@@ -114,7 +113,7 @@ module _ {M : Type 1} (𝓤 : URA M) (H : Heap 𝓤) (A : Atoms 𝓤) (at-mem : 
   DueAt = tripleOf 𝓤 H A g.signature (g.spec 𝓤 H A at-mem run)
 
 module _ {M : Type 1} (𝓤 : URA M) (H : Heap 𝓤) (A : Atoms 𝓤) (W : Given 𝓤 H A) (at-mem : Memory → SProp 𝓤) (run : Routine → Fun 𝓤) (κ κ′ : Lft) (q q′ : Share)
-    (connected touched : RefT (List Bool)) (buttons : RefT (List ButtonData)) (after every clock : ℕ) (room : Room Record (length (now buttons))) (enough : nowhere ≤ length (now buttons)) (after< : Fits after) (every< : Fits every) (clock< : Fits clock) where
+    (connected hasbutton : RefT (List Bool)) (buttons : RefT (List ButtonData)) (after every clock : ℕ) (room : Room Record (length (now buttons))) (enough : nowhere ≤ length (now buttons)) (after< : Fits after) (every< : Fits every) (clock< : Fits clock) where
   -- where the run lies: its block and its offset
   abbrev b : ℕ
   b = ptr buttons .0
@@ -129,29 +128,29 @@ module _ {M : Type 1} (𝓤 : URA M) (H : Heap 𝓤) (A : Atoms 𝓤) (W : Given
   at-place i = getD ys i pastButton
 
   abbrev due-at : ℕ → Bool
-  due-at = test (now connected) (now touched) ys after every clock
+  due-at = test (now connected) (now hasbutton) ys after every clock
 
   abbrev from-place : ℕ → ℕ
-  from-place = rest (now connected) (now touched) ys after every clock
+  from-place = rest (now connected) (now hasbutton) ys after every clock
 
   abbrev Answer : ℕ → Type 0
-  Answer = Scanned (now connected) (now touched) ys after every clock
+  Answer = Scanned (now connected) (now hasbutton) ys after every clock
 
   abbrev OwnsConnected : Fml
   OwnsConnected = ShrRef (named 0) κ Pads .own connected (ptr-vals connected)
 
   abbrev OwnsTouched : Fml
-  OwnsTouched = ShrRef (named 0) κ Places .own touched (ptr-vals touched)
+  OwnsTouched = ShrRef (named 0) κ Places .own hasbutton (ptr-vals hasbutton)
 
   abbrev OwnsRun : Fml
   OwnsRun = ShrSlice (named 1) κ′ Record .own buttons (slice-vals buttons)
 
   -- ---- the call of `due_at`
   abbrev passed : ℕ → Vals g.signature (κ, tt)
-  passed i = (ptr-vals connected, (ptr-vals touched, (vals (at-place i), (uint-vals w64 after, (uint-vals w64 every, (uint-vals w64 clock, (uint-vals w64 i, tt)))))))
+  passed i = (ptr-vals connected, (ptr-vals hasbutton, (vals (at-place i), (uint-vals w64 after, (uint-vals w64 every, (uint-vals w64 clock, (uint-vals w64 i, tt)))))))
 
   abbrev given : ℕ → Args g.signature (κ, tt)
-  given i = (connected, (touched, (at-place i, (after, (every, (clock, (i, tt)))))))
+  given i = (connected, (hasbutton, (at-place i, (after, (every, (clock, (i, tt)))))))
 
   abbrev callee : ℕ → DueAt 𝓤 H A at-mem run .Ghost
   callee i = (((κ, tt), (q, tt), tt, given i, passed i), tt)
@@ -165,7 +164,7 @@ module _ {M : Type 1} (𝓤 : URA M) (H : Heap 𝓤) (A : Atoms 𝓤) (W : Given
   goes i below is =
       qed W (‵ (flft κ q) ∷ ‵ OwnsConnected ∷ ‵ OwnsTouched ∷ []) ∵
       move ! (1 ∷ []) $ use1 W (‵ OwnsConnected ⊛ ‵ OwnsConnected) (shr-copy 𝓤 H A W (named 0) κ Pads .twice connected (ptr-vals connected)) $ split ! $
-      move ! (3 ∷ []) $ use1 W (‵ OwnsTouched ⊛ ‵ OwnsTouched) (shr-copy 𝓤 H A W (named 0) κ Places .twice touched (ptr-vals touched)) $ split ! $
+      move ! (3 ∷ []) $ use1 W (‵ OwnsTouched ⊛ ‵ OwnsTouched) (shr-copy 𝓤 H A W (named 0) κ Places .twice hasbutton (ptr-vals hasbutton)) $ split ! $
       -- [touched; touched; connected; connected; the token]
       nothing ! $ number ! i below-fits $ number ! clock clock< $ number ! every every< $ number ! after after< $
       owned ! Record (Is Record) (LL.makes T.the-type T′.the-plain 𝓤 H A) (at-place i) (vals (at-place i)) is $ fjoin ! $
@@ -182,10 +181,10 @@ module _ {M : Type 1} (𝓤 : URA M) (H : Heap 𝓤) (A : Atoms 𝓤) (W : Given
 
   -- ---- the exit
   abbrev x : Args f.signature (κ, (κ′, tt))
-  x = (connected, (touched, (buttons, (after, (every, (clock, tt))))))
+  x = (connected, (hasbutton, (buttons, (after, (every, (clock, tt))))))
 
   abbrev at : Vals f.signature (κ, (κ′, tt))
-  at = (ptr-vals connected, (ptr-vals touched, (slice-vals buttons, (uint-vals w64 after, (uint-vals w64 every, (uint-vals w64 clock, tt))))))
+  at = (ptr-vals connected, (ptr-vals hasbutton, (slice-vals buttons, (uint-vals w64 after, (uint-vals w64 every, (uint-vals w64 clock, tt))))))
 
   abbrev rows : List RattleType
   rows = ShrRef (named 0) κ Pads ∷ ShrRef (named 0) κ Places ∷ ShrSlice (named 1) κ′ Record ∷ u64 ∷ u64 ∷ u64 ∷ []
@@ -269,7 +268,7 @@ module _ {M : Type 1} (𝓤 : URA M) (H : Heap 𝓤) (A : Atoms 𝓤) (W : Given
     abbrev Turning : Item 𝓤 → Upto → List (Item 𝓤)
     Turning tested i = ‵ (froom T′.mir l₁₂ 0) ∷ ‵ (fdies T′.mir l₁₂) ∷ ‵ (froom tyPtr l₁₁ 0) ∷ ‵ (fdies tyPtr l₁₁) ∷ ‵ (froom word l₁₀ 0) ∷ ‵ (fdies word l₁₀) ∷ ‵ (froom tyBool l₉ 0) ∷ ‵ (fdies tyBool l₉) ∷ tested ∷ ‵ (fdies tyBool l₈)
         ∷ ‵ (fat fullShare word l₇ 0 (vint w64 (i .0))) ∷ ‵ (fdies word l₇) ∷ ‵ (fat fullShare word l₆ 0 (vint w64 clock)) ∷ ‵ (fdies word l₆) ∷ ‵ (fat fullShare word l₅ 0 (vint w64 every)) ∷ ‵ (fdies word l₅) ∷ ‵ (fat fullShare word l₄ 0 (vint w64 after)) ∷ ‵ (fdies word l₄)
-        ∷ ‵ (fat fullShare sliceT l₃ 0 (sliceVal (b, o) (length ys))) ∷ ‵ (fdies sliceT l₃) ∷ ‵ (fat fullShare placesT l₂ 0 (vptr (ptr touched .0) (ptr touched .1))) ∷ ‵ (fdies placesT l₂) ∷ ‵ (fat fullShare padsT l₁ 0 (vptr (ptr connected .0) (ptr connected .1))) ∷ ‵ (fdies padsT l₁)
+        ∷ ‵ (fat fullShare sliceT l₃ 0 (sliceVal (b, o) (length ys))) ∷ ‵ (fdies sliceT l₃) ∷ ‵ (fat fullShare placesT l₂ 0 (vptr (ptr hasbutton .0) (ptr hasbutton .1))) ∷ ‵ (fdies placesT l₂) ∷ ‵ (fat fullShare padsT l₁ 0 (vptr (ptr connected .0) (ptr connected .1))) ∷ ‵ (fdies padsT l₁)
         ∷ ‵ (froom word l₀ 0) ∷ ‵ (fdies word l₀) ∷ ‵ (fshr-bor κ′ (λ s. arr-parts (shares Record) (length ys) .part s ys b o)) ∷ ‵ (flft κ′ q′) ∷ ‵ OwnsRun ∷ ‵ (flft κ q) ∷ ‵ OwnsConnected ∷ ‵ OwnsTouched ∷ []
 
     abbrev At : Upto → List (Item 𝓤)

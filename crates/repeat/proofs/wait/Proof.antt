@@ -1,4 +1,4 @@
--- `wait` meets its contract: its two clauses. Assumes nothing.
+-- `wait` meets its contract: its two clauses.
 use Rattle.rules.specs.Repeat.{waitOf}
 use Rattle.repeat.proofs.wait.Statement.{statement}
 use Rattle.repeat.proofs.wait.Tie as tie

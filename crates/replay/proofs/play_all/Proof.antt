@@ -1,4 +1,4 @@
--- `play_all` is safe and ends: the measure is the number of turns that are left. Assumes nothing.
+-- `play_all` is safe and ends: the measure is the number of turns that are left.
 use mathlib.Core.Path.{_≡_}
 use Prim.Native.Nat.{_-_, _≤_}
 use native.Mathlib.Omega.{arith}

@@ -1,4 +1,4 @@
--- `turn` is safe and ends: the part of the payload that is read lies in its buffer. Assumes nothing.
+-- `turn` is safe and ends: the part of the payload that is read lies in its buffer.
 use mathlib.Core.Path.{sym}
 use native.Mathlib.Omega.{arith}
 use lib.Seq.{length-take-le}

@@ -1,4 +1,4 @@
--- `write` is safe and ends: what is written lies in the text. Assumes nothing.
+-- `write` is safe and ends: what is written lies in the text.
 use mathlib.Core.Path.{sym}
 use native.Mathlib.Omega.{arith}
 use lib.Seq.{length-take-le}

@@ -1,4 +1,4 @@
--- What each case of each answer says: 01's number, and the values beside it. Assumes nothing.
+-- What each case of each answer says: 01's number, and the values beside it.
 use mathlib.Core.Path.{refl}
 use mathlib.Core.Bool.{true, false}
 use mathlib.Core.List.{[], _∷_}

@@ -1,4 +1,4 @@
--- The public calls: new, register, rename, update, insert_event and the counter. Assumes nothing.
+-- The public calls: new, register, rename, update, insert_event and the counter.
 use Prim.Native.Nat.{ℕ, zero, suc}
 use mathlib.Core.Path.{_≡_, refl}
 use mathlib.Core.Bool.{true, false}
@@ -14,7 +14,7 @@ use Rattle.rules.specs.declared.RegisterAnswer.the-variants as registerA
 use Rattle.rules.specs.declared.PumpAnswer.the-variants.{Drained}
 use Rattle.rules.specs.Names.{codeUp, codeRight, dpadRight}
 use Rattle.rules.specs.Sheets.{sheetBytes}
-use Rattle.rules.specs.Hub.{placeIn, touchedAt, movedAt, axisAt}
+use Rattle.rules.specs.Hub.{placeIn, hasButtonAt, hasAxisAt, axisAt}
 use Rattle.rules.specs.Places.{placeOf}
 use Rattle.rules.specs.Calls.{newOf, registerOf, renameOf, updateOf, insertOf, incOf, resetOf}
 use Rattle.rules.specs.Examples.Table.{_is_, Right, button, event, half32, threeQuarters32}
@@ -89,7 +89,7 @@ converts :
     Right (
     registerOf (blank 1) own-right .hub .converts is (true ∷ false ∷ false ∷ false ∷ [])
     ∷ registerOf (registerOf (blank 0) own-right .hub) (sheetBytes 0 []) .hub .converts is (false ∷ true ∷ false ∷ false ∷ [])
-    ∷ renameOf (registerOf (blank 1) own-right .hub) 1 (255 ∷ []) .hub .reconverts is (false ∷ true ∷ false ∷ false ∷ [])
+    ∷ renameOf (registerOf (blank 1) own-right .hub) 1 (255 ∷ []) .hub .newconverts is (false ∷ true ∷ false ∷ false ∷ [])
     ∷ [])
 unfolding own-right blank bare registerOf renameOf sheetBytes
 converts = refl
@@ -100,8 +100,8 @@ pressed-before = given (desk true true) (event 5 (Pressed 1 south) ∷ event 5 (
 
 keeps-state :
     Right (
-    touchedAt (registerOf pressed-before (sheetBytes 0 []) .hub) (placeIn pressed-before 0 south) is true
-    ∷ movedAt (registerOf pressed-before (sheetBytes 0 []) .hub) (placeIn pressed-before 0 stickX) is true
+    hasButtonAt (registerOf pressed-before (sheetBytes 0 []) .hub) (placeIn pressed-before 0 south) is true
+    ∷ hasAxisAt (registerOf pressed-before (sheetBytes 0 []) .hub) (placeIn pressed-before 0 stickX) is true
     ∷ [])
 unfolding pressed-before given desk registerOf sheetBytes placeOf
 keeps-state = refl
@@ -188,7 +188,7 @@ moved-record : axisAt moved (placeIn moved 0 south) ≡ record { value = one32; 
 unfolding moved one desk eventsBytes updateOf placeOf
 moved-record = refl
 
-moved-marks : Right (movedAt moved (placeIn moved 0 south) is true ∷ touchedAt moved (placeIn moved 0 south) is false ∷ [])
+moved-marks : Right (hasAxisAt moved (placeIn moved 0 south) is true ∷ hasButtonAt moved (placeIn moved 0 south) is false ∷ [])
 unfolding moved one desk eventsBytes updateOf placeOf
 moved-marks = refl
 

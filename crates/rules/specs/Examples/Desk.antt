@@ -1,4 +1,4 @@
--- A desk for the examples that need a whole hub: its pad, records of that pad, and what a pump of them leaves. Assumes nothing.
+-- A desk for the examples that need a whole hub: its pad, records of that pad, and what a pump of them leaves.
 use Prim.Native.Nat.{ℕ, _*_}
 use mathlib.Core.Bool.{Bool, true, false}
 use mathlib.Core.List.{List, [], _∷_, _++_}

@@ -1,4 +1,4 @@
--- Dispatch: every arm of `next_event_priv`. Assumes nothing.
+-- Dispatch: every arm of `next_event_priv`.
 use Prim.Native.Nat.{ℕ}
 use mathlib.Core.Path.{_≡_, refl}
 use mathlib.Core.Bool.{Bool, true, false}

@@ -1,4 +1,4 @@
--- Events: the numbers of the eight kinds, how one waits and comes back, and its bytes. Assumes nothing.
+-- Events: the numbers of the eight kinds, how one waits and comes back, and its bytes.
 use Prim.Native.Nat.{ℕ}
 use mathlib.Core.Path.{_≡_, refl}
 use mathlib.Core.Bool.{true, false}

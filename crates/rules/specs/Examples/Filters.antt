@@ -1,4 +1,4 @@
--- The filters: the hat's cases, jitter at its limit, every arm of the deadzone, and the order of the three. Assumes nothing.
+-- The filters: the hat's cases, jitter at its limit, every arm of the deadzone, and the order of the three.
 use Prim.Native.Nat.{ℕ}
 use mathlib.Core.Path.{_≡_, refl}
 use mathlib.Core.Bool.{Bool, true, false}

@@ -1,4 +1,4 @@
--- The byte forms: a good record and a good event, byte by byte, and one of each damaged in every field. Assumes nothing.
+-- The byte forms: a good record and a good event, byte by byte, and one of each damaged in every field.
 use Prim.Native.Nat.{ℕ}
 use mathlib.Core.Path.{_≡_, refl}
 use mathlib.Core.Bool.{true, false}

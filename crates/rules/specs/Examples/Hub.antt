@@ -1,4 +1,4 @@
--- What is read of the hub, and the ring of waiting events. Assumes nothing.
+-- What is read of the hub, and the ring of waiting events.
 use mathlib.Core.Path.{_≡_, refl}
 use mathlib.Core.Bool.{true, false}
 use mathlib.Core.List.{List, [], _∷_}

@@ -1,4 +1,4 @@
--- Names: sorts, pairs, flags, the directions of a hat, and `to_nec`. Assumes nothing.
+-- Names: sorts, pairs, flags, the directions of a hat, and `to_nec`.
 use mathlib.Core.Path.{_≡_, refl}
 use mathlib.Core.Bool.{true, false}
 use mathlib.Core.List.{[], _∷_, map}

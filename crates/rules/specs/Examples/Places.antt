@@ -1,4 +1,4 @@
--- A pad's 52 places: how a sheet is laid out, where codes and names are found, and which pads convert. Assumes nothing.
+-- A pad's 52 places: how a sheet is laid out, where codes and names are found, and which pads convert.
 use Prim.Native.Nat.{ℕ, zero, suc, _+_}
 use mathlib.Core.Path.{_≡_, refl}
 use mathlib.Core.Bool.{Bool, true, false}

@@ -1,4 +1,4 @@
--- The pump: its stops and their order, refused records, and where its events go. Assumes nothing.
+-- The pump: its stops and their order, refused records, and where its events go.
 use Prim.Native.Nat.{ℕ}
 use mathlib.Core.Path.{_≡_, refl}
 use mathlib.Core.Bool.{true}

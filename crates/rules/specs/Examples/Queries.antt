@@ -1,4 +1,4 @@
--- The queries: refusals, the fallback to `to_nec`, axes before buttons, and records that are absent. Assumes nothing.
+-- The queries: refusals, the fallback to `to_nec`, axes before buttons, and records that are absent.
 use mathlib.Core.Path.{refl}
 use mathlib.Core.Bool.{true, false}
 use mathlib.Core.List.{[], _∷_}

@@ -1,4 +1,4 @@
--- Refusals: each condition at its limit and one past it, and for each two that stand side by side in an order an example where both hold. Assumes nothing.
+-- Refusals: each condition at its limit and one past it, and for each two that stand side by side in an order an example where both hold.
 use Prim.Native.Nat.{ℕ}
 use mathlib.Core.Path.{_≡_, refl}
 use mathlib.Core.Bool.{Bool, true, false}

@@ -1,4 +1,4 @@
--- Repeat: when a record is due, which is first, and the event that is answered. Assumes nothing.
+-- Repeat: when a record is due, which is first, and the event that is answered.
 use Prim.Native.Nat.{ℕ}
 use mathlib.Core.Path.{_≡_, refl}
 use mathlib.Core.Bool.{Bool, true, false}

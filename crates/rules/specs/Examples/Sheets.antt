@@ -1,4 +1,4 @@
--- Sheets and rename lists: a good sheet byte by byte, every rule of an element at its limit and one past it, and the order 3, 4, 5. Assumes nothing.
+-- Sheets and rename lists: a good sheet byte by byte, every rule of an element at its limit and one past it, and the order 3, 4, 5.
 use Prim.Native.Nat.{ℕ, zero, suc, _+_}
 use mathlib.Core.Path.{_≡_, refl}
 use mathlib.Core.Bool.{true, false}

@@ -1,4 +1,4 @@
--- State: the records of a code after each kind of event, first and later, what is read of them, and the counter. Assumes nothing.
+-- State: the records of a code after each kind of event, first and later, what is read of them, and the counter.
 use Prim.Native.Nat.{ℕ}
 use mathlib.Core.Path.{_≡_, refl}
 use mathlib.Core.Bool.{Bool, true, false}

@@ -1,4 +1,4 @@
--- Steps, as pumps of a few records: what is taken, filtered, queued and stored; Connected and Disconnected. Assumes nothing.
+-- Steps, as pumps of a few records: what is taken, filtered, queued and stored; Connected and Disconnected.
 use Prim.Native.Nat.{ℕ, zero, suc, _+_}
 use mathlib.Core.Path.{_≡_, refl}
 use mathlib.Core.Bool.{Bool, true, false}
@@ -17,7 +17,7 @@ use Rattle.rules.specs.declared.AxisAnswer.the-variants as axisAnswer
 use Rattle.rules.specs.Names.{codeUp, codeRight, dpadRight, dpadX}
 use Rattle.rules.specs.Sheets.{sheetBytes}
 use Rattle.rules.specs.Calls.{registerOf, insertOf, incOf, renameOf}
-use Rattle.rules.specs.Hub.{convertsIn, convertsNow, hatsNow, touchedAt, movedAt}
+use Rattle.rules.specs.Hub.{convertsIn, convertsNow, hatsNow, hasButtonAt, hasAxisAt}
 use Rattle.rules.specs.Step.{headAfter}
 use Rattle.rules.specs.Queries.{pressedByCode, connectedOf, buttonByCode, axisByCode, nameByCode}
 use Rattle.rules.specs.declared.NumberAnswer.the-variants as numberAnswer
@@ -190,12 +190,12 @@ full-given = given full-pad (event 5 (Pressed 0 codeUp) ∷ event 5 (Pressed 0 l
 
 full-cleared :
     Right (
-    touchedAt full-given 0 is true
-    ∷ touchedAt full-given 51 is true
-    ∷ movedAt full-given 51 is true
-    ∷ touchedAt (after full-given (connect 6)) 0 is false
-    ∷ touchedAt (after full-given (connect 6)) 51 is false
-    ∷ movedAt (after full-given (connect 6)) 51 is false
+    hasButtonAt full-given 0 is true
+    ∷ hasButtonAt full-given 51 is true
+    ∷ hasAxisAt full-given 51 is true
+    ∷ hasButtonAt (after full-given (connect 6)) 0 is false
+    ∷ hasButtonAt (after full-given (connect 6)) 51 is false
+    ∷ hasAxisAt (after full-given (connect 6)) 51 is false
     ∷ [])
 unfolding full-given full-pad rising last-button first-button given after bare registerOf sheetBytes raw
 full-cleared = refl

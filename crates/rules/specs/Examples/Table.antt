@@ -1,5 +1,4 @@
 -- How the examples are written: a case is what a definition finds and what document 01 owes, and a table is right where the two columns are equal.
--- Assumes nothing.
 use mathlib.Core.Path.{_≡_}
 use mathlib.Core.List.{List, [], _∷_}
 use Prim.Native.Nat.{ℕ}

@@ -1,4 +1,4 @@
--- `abs` meets its contract: each way through the code is one arm of `absOf`. Assumes nothing.
+-- `abs` meets its contract: each way through the code is one arm of `absOf`.
 use Rattle.numbers.specs.Jitter.{absOf}
 use Rattle.scale.proofs.abs.Statement.{statement}
 use Rattle.scale.proofs.abs.Tie as tie

@@ -1,4 +1,4 @@
--- `axis_value` meets its contract: the cast is exact inside 01's limits, and what `plus_odd`, `turned` and `clamp` ensure is put together. Assumes nothing.
+-- `axis_value` meets its contract: the cast is exact inside 01's limits, and what `plus_odd`, `turned` and `clamp` ensure is put together.
 use mathlib.Core.Path.{_≡_, refl}
 use lib.Ieee.{neg, ofBits}
 use borrow.Author.Needs.{needs}

@@ -1,4 +1,4 @@
--- `button_value` meets its contract: the cast is exact inside 01's limits, and `clamp` ensures the rest. Assumes nothing.
+-- `button_value` meets its contract: the cast is exact inside 01's limits, and `clamp` ensures the rest.
 use mathlib.Core.Path.{_∙_}
 use borrow.Author.Needs.{needs}
 use Rattle.numbers.specs.Scale.{buttonScaledOf}

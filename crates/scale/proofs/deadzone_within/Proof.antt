@@ -1,4 +1,4 @@
--- `deadzone_within` meets its contract: each way through the code is one arm of `deadzoneWithinOf`. Assumes nothing.
+-- `deadzone_within` meets its contract: each way through the code is one arm of `deadzoneWithinOf`.
 use borrow.Author.Tests.{eq-eqb, ne-eqb}
 use Rattle.numbers.specs.Constants.{deadzoneWithinOf}
 use Rattle.scale.proofs.deadzone_within.Statement.{statement}

@@ -1,4 +1,4 @@
--- `jitters` meets its contract: what `abs` ensures, and each way through the code is one value of the test for 0. Assumes nothing.
+-- `jitters` meets its contract: what `abs` ensures, and each way through the code is one value of the test for 0.
 use borrow.Author.Needs.{needs}
 use Rattle.numbers.specs.Jitter.{jitterOf}
 use Rattle.scale.proofs.jitters.Statement.{statement}

@@ -1,4 +1,4 @@
--- `low_of` meets its contract: the cast is exact inside 01's limits. Assumes nothing.
+-- `low_of` meets its contract: the cast is exact inside 01's limits.
 use Rattle.numbers.specs.Scale.{lowOf}
 use Rattle.scale.specs.Casts.{cast-fits, cast-is}
 use Rattle.scale.proofs.low_of.Statement.{statement}

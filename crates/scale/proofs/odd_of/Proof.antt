@@ -1,4 +1,4 @@
--- `odd_of` meets its contract: no difference of two numbers inside 01's limits wraps, and the machine's remainder by 2 is the definition's. Assumes nothing.
+-- `odd_of` meets its contract: no difference of two numbers inside 01's limits wraps, and the machine's remainder by 2 is the definition's.
 use mathlib.Core.Path.{_≡_, refl, sym, subst}
 use Prim.Native.Nat.{ℕ, zero, suc, _%_, _<_}
 use native.Mathlib.Nat.{mod-lt}

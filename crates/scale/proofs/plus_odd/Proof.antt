@@ -1,4 +1,4 @@
--- `plus_odd` meets its contract: each way through the code is one arm of `plusOdd`. Assumes nothing.
+-- `plus_odd` meets its contract: each way through the code is one arm of `plusOdd`.
 use Rattle.numbers.specs.Scale.{plusOdd}
 use Rattle.scale.proofs.plus_odd.Statement.{statement}
 use Rattle.scale.proofs.plus_odd.Tie as tie

@@ -1,4 +1,4 @@
--- `range_of` meets its contract: both casts are exact inside 01's limits. Assumes nothing.
+-- `range_of` meets its contract: both casts are exact inside 01's limits.
 use Rattle.numbers.specs.Scale.{rangeOf}
 use Rattle.scale.specs.Casts.{cast-fits, cast-is}
 use Rattle.scale.proofs.range_of.Statement.{statement}

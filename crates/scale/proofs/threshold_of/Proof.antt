@@ -1,4 +1,4 @@
--- `threshold_of` meets its contract: an absent deadzone is one arm of `thresholdOf`; else the cast is exact, and the range is what `range_of` ensures. Assumes nothing.
+-- `threshold_of` meets its contract: an absent deadzone is one arm of `thresholdOf`; else the cast is exact, and the range is what `range_of` ensures.
 use borrow.Author.Needs.{needs}
 use borrow.Author.Tests.{eq-eqb, ne-eqb}
 use Rattle.numbers.specs.Scale.{thresholdOf}

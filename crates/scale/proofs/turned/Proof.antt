@@ -1,4 +1,4 @@
--- `turned` meets its contract: each way through the code is one arm of `turnedOf`. Assumes nothing.
+-- `turned` meets its contract: each way through the code is one arm of `turnedOf`.
 use borrow.Author.Tests.{not-true, not-false}
 use Rattle.numbers.specs.Scale.{turnedOf}
 use Rattle.scale.proofs.turned.Statement.{statement}

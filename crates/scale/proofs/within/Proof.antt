@@ -1,4 +1,4 @@
--- `within` meets its contract: the number that the machine reads is the number, and each way through the code is one side of the two limits. Assumes nothing.
+-- `within` meets its contract: the number that the machine reads is the number, and each way through the code is one side of the two limits.
 use mathlib.Core.Path.{_≡_, refl, sym, subst}
 use mathlib.Core.Bool.{true, false}
 use native.Mathlib.Omega.{arith}

@@ -1,4 +1,4 @@
--- `sheets::axis_fits` meets its contract: the tests are the definition's, in its order. Assumes nothing.
+-- `sheets::axis_fits` meets its contract: the tests are the definition's, in its order.
 use borrow.Author.Needs.{needs}
 use mathlib.Core.Path.{_≡_, sym, _∙_, ap, ap₂}
 use lib.Signed.{ltZ}

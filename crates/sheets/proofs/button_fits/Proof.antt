@@ -1,4 +1,4 @@
--- `sheets::button_fits` meets its contract: the tests are the definition's, in its order. Assumes nothing.
+-- `sheets::button_fits` meets its contract: the tests are the definition's, in its order.
 use borrow.Author.Needs.{needs}
 use mathlib.Core.Path.{_≡_, sym, _∙_, ap}
 use borrow.Author.Tests.{not-true, not-false}

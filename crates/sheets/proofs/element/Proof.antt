@@ -1,4 +1,4 @@
--- `sheets::element` meets its contract: the element at its place. Assumes nothing.
+-- `sheets::element` meets its contract: the element at its place.
 use borrow.Author.Needs.{needs}
 use Rattle.rules.specs.Sheets.{elementOf}
 use Rattle.sheets.proofs.element.Statement.{statement}

@@ -1,4 +1,4 @@
--- `sheets::element_at` meets its contract, field by field. Assumes nothing.
+-- `sheets::element_at` meets its contract, field by field.
 use borrow.Author.Needs.{needs}
 use mir.Syntax.{w32}
 use mir.Facts.{toZ-ofZ}

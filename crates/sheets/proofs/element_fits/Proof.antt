@@ -1,4 +1,4 @@
--- `sheets::element_fits` meets its contract: the tests are the definition's, in its order. Assumes nothing.
+-- `sheets::element_fits` meets its contract: the tests are the definition's, in its order.
 use borrow.Author.Needs.{needs}
 use mathlib.Core.Path.{sym, _∙_}
 use borrow.Author.Tests.{not-true, not-false}

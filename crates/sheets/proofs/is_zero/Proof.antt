@@ -1,4 +1,4 @@
--- `sheets::is_zero` meets its contract: the bits of no other number that fits are all zero. Assumes nothing.
+-- `sheets::is_zero` meets its contract: the bits of no other number that fits are all zero.
 use mathlib.Core.Path.{_≡_, refl}
 use Prim.Native.Nat.{_<_}
 use native.Mathlib.Omega.{arith}

@@ -1,4 +1,4 @@
--- `sheets::name_allowed` meets its contract: the tests are the definition's, in its order. Assumes nothing.
+-- `sheets::name_allowed` meets its contract: the tests are the definition's, in its order.
 use borrow.Author.Needs.{needs}
 use Rattle.rules.specs.Names.{nameAllowed}
 use Rattle.sheets.proofs.name_allowed.Statement.{statement}

@@ -1,4 +1,4 @@
--- `sheets::read_sheet` meets its contract: a sheet that is not refused has its opening. Assumes nothing.
+-- `sheets::read_sheet` meets its contract: a sheet that is not refused has its opening.
 use borrow.Author.Needs.{needs}
 use mathlib.Core.Path.{sym, _∙_}
 use native.Mathlib.Omega.{arith}

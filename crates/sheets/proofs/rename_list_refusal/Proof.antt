@@ -1,4 +1,4 @@
--- `sheets::rename_list_refusal` meets its contract: `in-order` has the order. Assumes nothing.
+-- `sheets::rename_list_refusal` meets its contract: `in-order` has the order.
 use borrow.Author.Needs.{needs}
 use mathlib.Core.Bool.{false}
 use borrow.Author.Tests.{eq-eqb, ne-eqb}

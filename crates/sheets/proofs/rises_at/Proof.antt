@@ -1,4 +1,4 @@
--- `sheets::rises_at` meets its contract: the two codes are those of the elements read. Assumes nothing.
+-- `sheets::rises_at` meets its contract: the two codes are those of the elements read.
 use borrow.Author.Needs.{needs}
 use borrow.Author.Tests.{ne-eqb}
 use Rattle.rules.specs.Sheets.{rises}

@@ -1,4 +1,4 @@
--- `sheets::sheet_fits` meets its contract: a size under 5 is none that the definition allows, and the other tests are its own. Assumes nothing.
+-- `sheets::sheet_fits` meets its contract: a size under 5 is none that the definition allows, and the other tests are its own.
 use borrow.Author.Needs.{needs}
 use mathlib.Core.Path.{_≡_}
 use Prim.Native.Nat.{_+_, _*_}

@@ -1,4 +1,4 @@
--- `sheets::sheet_refusal` meets its contract: a size that fits has the elements' bytes, and `in-order` has the order. Assumes nothing.
+-- `sheets::sheet_refusal` meets its contract: a size that fits has the elements' bytes, and `in-order` has the order.
 use borrow.Author.Needs.{needs}
 use mathlib.Core.Path.{_≡_, sym, _∙_}
 use mathlib.Core.Bool.{true}

@@ -1,4 +1,4 @@
--- `sheets::stands_again` meets its contract: no name never stands again, and any other is looked for. Assumes nothing.
+-- `sheets::stands_again` meets its contract: no name never stands again, and any other is looked for.
 use borrow.Author.Needs.{needs}
 use native.Mathlib.Omega.{arith}
 use borrow.Author.Tests.{ne-eqb}

@@ -1,4 +1,4 @@
--- `axis_after` meets its contract: each arm of the match is the clause of the law book for its kind of event. Assumes nothing.
+-- `axis_after` meets its contract: each arm of the match is the clause of the law book for its kind of event.
 use borrow.Author.Needs.{needs}
 use Rattle.rules.specs.State.{axisAfter}
 use Rattle.state.proofs.axis_after.Statement.{statement}

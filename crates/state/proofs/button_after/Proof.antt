@@ -1,4 +1,4 @@
--- `button_after` meets its contract: each arm of the match is the clause of the law book for its kind of event, with what `kept_value` and `kept_mark` ensure put in. Assumes nothing.
+-- `button_after` meets its contract: each arm of the match is the clause of the law book for its kind of event, with what `kept_value` and `kept_mark` ensure put in.
 use borrow.Author.Needs.{needs}
 use Rattle.rules.specs.State.{buttonAfter}
 use Rattle.state.proofs.Marks.{only-known}

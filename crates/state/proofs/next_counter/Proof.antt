@@ -1,4 +1,4 @@
--- `next_counter` meets its contract, by the test of the definition. Assumes nothing.
+-- `next_counter` meets its contract, by the test of the definition.
 use borrow.Author.Needs.{needs}
 use borrow.Author.Tests.{lt-ltb, le-ltb}
 use Rattle.rules.specs.State.{nextCounter}

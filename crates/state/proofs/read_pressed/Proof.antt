@@ -1,4 +1,4 @@
--- `read_pressed` meets its contract: a mark that only a known record has. Assumes nothing.
+-- `read_pressed` meets its contract: a mark that only a known record has.
 use borrow.Author.Needs.{needs}
 use Rattle.rules.specs.State.{readPressed}
 use Rattle.state.proofs.Marks.{only-known}

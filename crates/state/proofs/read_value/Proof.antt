@@ -1,4 +1,4 @@
--- `read_value` meets its contract: the axis record first, then the button record, else 0.0. Assumes nothing.
+-- `read_value` meets its contract: the axis record first, then the button record, else 0.0.
 use borrow.Author.Needs.{needs}
 use Rattle.rules.specs.State.{readValue}
 use Rattle.state.proofs.read_value.Statement.{statement}

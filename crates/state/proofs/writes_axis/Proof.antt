@@ -1,4 +1,4 @@
--- `writes_axis` meets its contract: each arm of the match is the clause of the law book for its kind of event. Assumes nothing.
+-- `writes_axis` meets its contract: each arm of the match is the clause of the law book for its kind of event.
 use borrow.Author.Needs.{needs}
 use Rattle.rules.specs.State.{writesAxis}
 use Rattle.state.proofs.writes_axis.Statement.{statement}

@@ -1,4 +1,4 @@
--- `writes_button` meets its contract: each arm of the match is the clause of the law book for its kind of event. Assumes nothing.
+-- `writes_button` meets its contract: each arm of the match is the clause of the law book for its kind of event.
 use borrow.Author.Needs.{needs}
 use Rattle.rules.specs.State.{writesButton}
 use Rattle.state.proofs.writes_button.Statement.{statement}

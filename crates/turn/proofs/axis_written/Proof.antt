@@ -1,4 +1,4 @@
--- `turn::axis_written` meets its contract: by the test. Assumes nothing.
+-- `turn::axis_written` meets its contract: by the test.
 use borrow.Author.Needs.{needs}
 use Rattle.turn.proofs.axis_written.Statement.{statement}
 use Rattle.turn.proofs.axis_written.Tie as tie

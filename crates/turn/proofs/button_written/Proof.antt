@@ -1,4 +1,4 @@
--- `turn::button_written` meets its contract: by the test. Assumes nothing.
+-- `turn::button_written` meets its contract: by the test.
 use borrow.Author.Needs.{needs}
 use Rattle.turn.proofs.button_written.Statement.{statement}
 use Rattle.turn.proofs.button_written.Tie as tie

@@ -1,4 +1,4 @@
--- `turn::connect` meets its contract: by the kind. Assumes nothing.
+-- `turn::connect` meets its contract: by the kind.
 use borrow.Author.Tests.{eq-eqb, ne-eqb}
 use Rattle.rules.specs.Step.{connectedAfter}
 use borrow.Author.Needs.{needs}

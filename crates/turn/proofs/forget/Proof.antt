@@ -1,4 +1,4 @@
--- `turn::forget` meets its contract: by the kind. Assumes nothing.
+-- `turn::forget` meets its contract: by the kind.
 use borrow.Author.Tests.{eq-eqb, ne-eqb}
 use Rattle.rules.specs.Step.{renamedAfter}
 use borrow.Author.Needs.{needs}

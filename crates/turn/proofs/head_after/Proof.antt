@@ -1,4 +1,4 @@
--- `turn::head_after` meets its contract: by whether something waits. Assumes nothing.
+-- `turn::head_after` meets its contract: by whether something waits.
 use borrow.Author.Tests.{lt-ltb, le-ltb}
 use Rattle.rules.specs.Step.{headAfter}
 use borrow.Author.Needs.{needs}

@@ -1,4 +1,4 @@
--- `turn::known_after` meets its contract: by the first truth. Assumes nothing.
+-- `turn::known_after` meets its contract: by the first truth.
 use borrow.Author.Needs.{needs}
 use Rattle.turn.proofs.known_after.Statement.{statement}
 use Rattle.turn.proofs.known_after.Tie as tie

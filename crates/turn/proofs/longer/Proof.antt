@@ -1,4 +1,4 @@
--- `turn::longer` meets its contract: by whether there is room. Assumes nothing.
+-- `turn::longer` meets its contract: by whether there is room.
 use borrow.Author.Tests.{lt-ltb, le-ltb}
 use Rattle.rules.specs.Hub.{longerOf}
 use borrow.Author.Needs.{needs}

@@ -1,4 +1,4 @@
--- `turn::place_after` meets its contract: by whether something waits. Assumes nothing.
+-- `turn::place_after` meets its contract: by whether something waits.
 use borrow.Author.Tests.{lt-ltb, le-ltb}
 use Rattle.rules.specs.Pump.{placeAfter}
 use borrow.Author.Needs.{needs}

@@ -1,4 +1,4 @@
--- `turn::refusal` meets its contract: what the calls ensure, put together. Assumes nothing.
+-- `turn::refusal` meets its contract: what the calls ensure, put together.
 use borrow.Author.Needs.{needs}
 use Rattle.turn.proofs.refusal.Statement.{statement}
 use Rattle.turn.proofs.refusal.Tie as tie

@@ -1,4 +1,4 @@
--- `turn::stop` meets its contract: what the calls ensure, put together. Assumes nothing.
+-- `turn::stop` meets its contract: what the calls ensure, put together.
 use Rattle.rules.specs.Pump.{stopOf}
 use borrow.Author.Needs.{needs}
 use Rattle.turn.proofs.stop.Statement.{statement}

@@ -1,4 +1,4 @@
--- `turn::stop_answer` meets its contract: by the reason. Assumes nothing.
+-- `turn::stop_answer` meets its contract: by the reason.
 use borrow.Author.Tests.{eq-eqb, ne-eqb}
 use Rattle.turn.proofs.stop_answer.Statement.{statement}
 use Rattle.turn.proofs.stop_answer.Tie as tie

@@ -1,4 +1,4 @@
--- `turn::take` meets its contract: by whether something waits. Assumes nothing.
+-- `turn::take` meets its contract: by whether something waits.
 use borrow.Author.Tests.{lt-ltb, le-ltb}
 use Rattle.turn.specs.Turn.{takenBy}
 use borrow.Author.Needs.{needs}

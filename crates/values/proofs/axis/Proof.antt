@@ -1,4 +1,4 @@
--- `axis` is safe: what a function requires of a whole number is what `within` answered of it. Assumes nothing.
+-- `axis` is safe: what a function requires of a whole number is what `within` answered of it.
 use borrow.Author.Needs.{needs}
 use Rattle.values.proofs.Answers.{passed}
 use Rattle.values.proofs.axis.Statement.{statement}

@@ -1,4 +1,4 @@
--- `fault` is safe: the part of the array that is read has as many bytes as the record. Assumes nothing.
+-- `fault` is safe: the part of the array that is read has as many bytes as the record.
 use mathlib.Core.Path.{_≡_}
 use mathlib.Core.List.{List}
 use Prim.Native.Nat.{ℕ, _*_, _≤_}

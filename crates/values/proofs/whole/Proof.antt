@@ -1,4 +1,4 @@
--- `whole` is safe: from 2^31 on a word w stands for -(0xffffffff - w) - 1, and that fits. Assumes nothing.
+-- `whole` is safe: from 2^31 on a word w stands for -(0xffffffff - w) - 1, and that fits.
 use mathlib.Core.Path.{_≡_, refl, sym, ap, _∙_, subst}
 use Prim.Native.Nat.{ℕ, zero, suc, _-_, _≤_, _<_}
 use native.Mathlib.Omega.{arith}

@@ -1,4 +1,4 @@
--- `wire::event_kind_fits` meets its contract: the tests are the definition's, in its order. Assumes nothing.
+-- `wire::event_kind_fits` meets its contract: the tests are the definition's, in its order.
 use borrow.Author.Needs.{needs}
 use borrow.Author.Tests.{le-leb, lt-leb, eq-eqb, ne-eqb, not-true, not-false}
 use Rattle.rules.specs.Forms.{eventKindFits, hasValue}

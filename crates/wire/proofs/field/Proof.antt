@@ -1,5 +1,4 @@
 -- `wire::field` meets its contract. The invariant: the number so far is the field of the bytes passed, below its power of 256.
--- Assumes nothing.
 use mathlib.Core.Path.{_≡_, refl, ap, _∙_, subst}
 use Prim.Native.Nat.{ℕ, _≤_, _<_, _-_, _+_, _*_, _^_}
 use native.Mathlib.Omega.{arith}

@@ -1,4 +1,4 @@
--- `wire::name_fits` meets its contract: the tests are the definition's, in its order. Assumes nothing.
+-- `wire::name_fits` meets its contract: the tests are the definition's, in its order.
 use borrow.Author.Needs.{needs}
 use borrow.Author.Tests.{le-leb, lt-leb, eq-eqb, ne-eqb}
 use Rattle.rules.specs.Forms.{nameFits}

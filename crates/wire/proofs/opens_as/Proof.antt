@@ -1,4 +1,4 @@
--- `wire::opens_as` meets its contract: the two tests are the definition's, in its order. Assumes nothing.
+-- `wire::opens_as` meets its contract: the two tests are the definition's, in its order.
 use borrow.Author.Needs.{needs}
 use borrow.Author.Tests.{eq-eqb, ne-eqb}
 use Rattle.rules.specs.Forms.{opens}

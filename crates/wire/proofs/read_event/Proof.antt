@@ -1,4 +1,4 @@
--- `wire::read_event` meets its contract: `Whole` says what each test gives. Assumes nothing.
+-- `wire::read_event` meets its contract: `Whole` says what each test gives.
 use borrow.Author.Needs.{needs}
 use mathlib.Core.Path.{sym, _∙_}
 use borrow.Author.Tests.{not-true, not-false}

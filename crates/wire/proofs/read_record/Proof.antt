@@ -1,4 +1,4 @@
--- `wire::read_record` meets its contract: `Whole` says what each test gives. Assumes nothing.
+-- `wire::read_record` meets its contract: `Whole` says what each test gives.
 use borrow.Author.Needs.{needs}
 use mathlib.Core.Path.{sym, _∙_}
 use Prim.Native.Nat.{_-_, _≤_, _<_}

@@ -1,4 +1,4 @@
--- `wire::record_kind_fits` meets its contract: the tests are the definition's, in its order. Assumes nothing.
+-- `wire::record_kind_fits` meets its contract: the tests are the definition's, in its order.
 use borrow.Author.Tests.{lt-ltb, le-ltb, le-leb, lt-leb, eq-eqb, ne-eqb}
 use Rattle.rules.specs.Forms.{recordKindFits}
 use Rattle.wire.proofs.record_kind_fits.Statement.{statement}

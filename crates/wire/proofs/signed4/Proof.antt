@@ -1,4 +1,4 @@
--- `wire::signed4` meets its contract, by those of `read4` and `signed_of`. Assumes nothing.
+-- `wire::signed4` meets its contract, by those of `read4` and `signed_of`.
 use borrow.Author.Needs.{needs}
 use mathlib.Core.Path.{ap, _∙_}
 use mir.Facts.{toZ-ofZ}

@@ -1,5 +1,5 @@
 -- `wire::signed_of` meets its contract: below 2 ^ 31 the number is itself, and in the upper half what the code computes is -(y + 1), with y how
--- far x lies below 2 ^ 32 - 1. Assumes nothing.
+-- far x lies below 2 ^ 32 - 1.
 use borrow.Author.Needs.{needs}
 use mathlib.Core.Path.{_≡_, refl, sym, _∙_, ap, subst}
 use Prim.Native.Nat.{ℕ, zero, suc, _-_, _<_, _≤_}

@@ -1,4 +1,4 @@
--- `wire::write_event` meets its contract. The invariant: the first bytes are the event's, the others as they were. Assumes nothing.
+-- `wire::write_event` meets its contract. The invariant: the first bytes are the event's, the others as they were.
 use mathlib.Core.Path.{_≡_, refl, ap, _∙_}
 use mathlib.Core.List.{List, _++_}
 use Prim.Native.Nat.{ℕ, _≤_, _<_, _-_}

@@ -1,4 +1,4 @@
--- `dump::buttons` is safe and ends. The measure is how many places are left. Assumes nothing.
+-- `dump::buttons` is safe and ends. The measure is how many places are left.
 use mathlib.Core.Path.{_≡_}
 use Prim.Native.Nat.{_-_, _≤_}
 use native.Mathlib.Omega.{arith}

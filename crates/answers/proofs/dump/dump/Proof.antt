@@ -1,4 +1,4 @@
--- `dump::dump` is safe and ends. The measure is how many pads are left. Assumes nothing.
+-- `dump::dump` is safe and ends. The measure is how many pads are left.
 use mathlib.Core.Path.{_≡_}
 use Prim.Native.Nat.{_-_, _≤_}
 use native.Mathlib.Omega.{arith}

@@ -1,4 +1,4 @@
--- `dump::flags` is safe and ends. The measure is how many flags are left. Assumes nothing.
+-- `dump::flags` is safe and ends. The measure is how many flags are left.
 use mathlib.Core.Path.{_≡_}
 use Prim.Native.Nat.{_-_, _≤_}
 use native.Mathlib.Omega.{arith}

@@ -1,4 +1,4 @@
--- What of `pump::pump` follows at once: each call may be made, each index lies in its array, no number overflows. Assumes nothing.
+-- What of `pump::pump` follows at once: each call may be made, each index lies in its array, no number overflows.
 use borrow.Author.Needs.{needs}
 use native.Mathlib.Omega.{arith}
 use Rattle.pump.proofs.pump.Tie as tie
@@ -25,8 +25,8 @@ stop-answer-requires c κs = search needs
 pub same-length : tie.Need-same-length Inv-loop3 μ-loop3 Inv-loop2 μ-loop2 Inv-loop μ-loop
 same-length c = omega arith
 
-pub look-requires : tie.Need-look-requires Inv-loop3 μ-loop3 Inv-loop2 μ-loop2 Inv-loop μ-loop
-look-requires c κs = search needs
+pub next-record-requires : tie.Need-next-record-requires Inv-loop3 μ-loop3 Inv-loop2 μ-loop2 Inv-loop μ-loop
+next-record-requires c κs = search needs
 
 pub find-requires : tie.Need-find-requires Inv-loop3 μ-loop3 Inv-loop2 μ-loop2 Inv-loop μ-loop
 find-requires c κs = search needs
@@ -61,11 +61,11 @@ element-copy-out-slot c = omega arith
 pub wide-requires : tie.Need-wide-requires Inv-loop3 μ-loop3 Inv-loop2 μ-loop2 Inv-loop μ-loop
 wide-requires c κs = search needs
 
-pub join-run-requires : tie.Need-join-run-requires Inv-loop3 μ-loop3 Inv-loop2 μ-loop2 Inv-loop μ-loop
-join-run-requires c κs = search needs
+pub marks-cleared-requires : tie.Need-marks-cleared-requires Inv-loop3 μ-loop3 Inv-loop2 μ-loop2 Inv-loop μ-loop
+marks-cleared-requires c κs = search needs
 
-pub join-run-requires-2 : tie.Need-join-run-requires-2 Inv-loop3 μ-loop3 Inv-loop2 μ-loop2 Inv-loop μ-loop
-join-run-requires-2 c κs = search needs
+pub marks-cleared-requires-2 : tie.Need-marks-cleared-requires-2 Inv-loop3 μ-loop3 Inv-loop2 μ-loop2 Inv-loop μ-loop
+marks-cleared-requires-2 c κs = search needs
 
 pub connect-requires : tie.Need-connect-requires Inv-loop3 μ-loop3 Inv-loop2 μ-loop2 Inv-loop μ-loop
 connect-requires c κs = search needs

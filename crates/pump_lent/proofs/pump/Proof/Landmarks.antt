@@ -10,7 +10,7 @@ use native.Mathlib.Omega.{arith}
 use Rattle.rules.specs.declared.Hub.{Hub}
 use Rattle.rules.specs.Names.{bufferLimit}
 use Rattle.rules.specs.Forms.{eventSize}
-use Rattle.rules.specs.Step.{lookedOf, stepRefusal}
+use Rattle.rules.specs.Step.{nextRecordOf, stepRefusal}
 use Rattle.rules.specs.Pump.{Progress, Run, stepped, pumpOf}
 use Rattle.steps.specs.Runs.{rest, standing, roomy, run-goes, pump-runs}
 use Rattle.steps.specs.Records.{refusal-is, place-small}
@@ -33,13 +33,13 @@ abbrev pub outer : At tie.At-loop2 → At tie.At-loop
 outer c = c .before
 
 -- no stop is answered
-abbrev pub going : At tie.After-look → At tie.Else2
+abbrev pub going : At tie.After-next-record → At tie.Else2
 going c = c .before
 
 abbrev pub inner : At tie.Else2 → At tie.At-loop2
 inner c = c .before .before
 
-abbrev pub looked : At tie.After-find → At tie.After-look
+abbrev pub looked : At tie.After-find → At tie.After-next-record
 looked c = c .before .before .before .before .before
 
 abbrev pub found : At tie.After-refusal → At tie.After-find
@@ -101,27 +101,27 @@ abbrev pub hub-given : At tie.Start → Hub
 hub-given c =
     let a = c .args in
     hubOf (a .head) (listed-in c)
-    (columns (now (a .touched)) (now (a .moved)) (now (a .values)) (now (a .times)) (now (a .marks)) (now (a .queuebytes)) (now (a .queuecodes)))
+    (columns (now (a .hasbutton)) (now (a .hasaxis)) (now (a .values)) (now (a .times)) (now (a .marks)) (now (a .queuebytes)) (now (a .queuecodes)))
 
 abbrev pub hub-in : At tie.At-loop2 → Hub
 hub-in c =
     let l = c .loop2 in
     hubOf (l .h) (listed-in (start (outer c)))
-    (columns (l .touched) (l .moved) (l .values) (l .times) (outer c .loop .marks) (l .queuebytes) (l .queuecodes))
+    (columns (l .hasbutton) (l .hasaxis) (l .values) (l .times) (outer c .loop .marks) (l .queuebytes) (l .queuecodes))
 
 -- the marks of which records stand, once a record that joins has cleared its pad's
-abbrev pub touched-by : At tie.After-mark-joins → List Bool
-touched-by c = c .mark-joins .last .1 .1 .0
+abbrev pub hasbutton-by : At tie.After-mark-joins → List Bool
+hasbutton-by c = c .mark-joins .last .1 .1 .0
 
-abbrev pub moved-by : At tie.After-mark-joins → List Bool
-moved-by c = c .mark-joins .last .1 .1 .1 .0
+abbrev pub hasaxis-by : At tie.After-mark-joins → List Bool
+hasaxis-by c = c .mark-joins .last .1 .1 .1 .0
 
 abbrev pub hub-pushing : At tie.At-loop3 → Hub
 hub-pushing c =
     let m = c .loop3 in
     let j = joined (placed (passed c)) in
     let o = outer (inner-of (judged (accepted-of j))) in
-    hubOf (m .h) (listed-in (start o)) (columns (touched-by j) (moved-by j) (m .values) (m .times) (o .loop .marks) (m .queuebytes) (m .queuecodes))
+    hubOf (m .h) (listed-in (start o)) (columns (hasbutton-by j) (hasaxis-by j) (m .values) (m .times) (o .loop .marks) (m .queuebytes) (m .queuecodes))
 
 abbrev pub batch-in : At tie.At-loop → List ℕ
 batch-in c = now (start c .args .batch)
@@ -166,11 +166,11 @@ whole-run c =
 -- the refusal that was worked out is the step's
 pub number-is :
     (c : At tie.After-refusal) →
-    let l = inner-of c in c .refusal .result ≡ stepRefusal (hub-in l) (lookedOf (hub-in l .waiting) (batch-in (outer l)) (l .loop2 .at))
+    let l = inner-of c in c .refusal .result ≡ stepRefusal (hub-in l) (nextRecordOf (hub-in l .waiting) (batch-in (outer l)) (l .loop2 .at))
 number-is c =
     let l = inner-of c in
     let f = found c in
-    refusal-is (hub-in l) (batch-in (outer l)) (l .loop2 .at) (looked f .look .ensures) (f .find .ensures .is) (c .refusal .ensures)
+    refusal-is (hub-in l) (batch-in (outer l)) (l .loop2 .at) (looked f .next-record .ensures) (f .find .ensures .is) (c .refusal .ensures)
 
 -- a record that is not refused makes a step more
 pub goes-on :
@@ -193,7 +193,7 @@ place-fits c =
     let n = judged y in
     let f = found n in
     let l = inner-of n .loop2 in
-    place-small (l .h .waiting) (batch-in (outer (inner-of n))) (l .at) (l .h .pads) (f .find .result .kind) (looked f .look .ensures)
+    place-small (l .h .waiting) (batch-in (outer (inner-of n))) (l .at) (l .h .pads) (f .find .result .kind) (looked f .next-record .ensures)
     (n .refusal .ensures) (y .if3 .left) (c .place-after .ensures) (l .inv .0 .at-small)
 
 -- there was room where a kept event is written

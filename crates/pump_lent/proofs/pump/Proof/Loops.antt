@@ -13,44 +13,44 @@ use Rattle.pump_lent.proofs.pump.Tie as tie
 
 -- the push loop: pushing the rest of what waits comes to pushing all of it
 abbrev pub Inv-loop3 : tie.InvT-loop3
-Inv-loop3 codes kinds names renames touched moved values₀ times₀ marks queuebytes₀ queuecodes₀ batch place out allowance h₀ refused at
+Inv-loop3 codes kinds names renames hasbutton hasaxis values₀ times₀ marks queuebytes₀ queuecodes₀ batch place out allowance h₀ refused at
     events steps left waiting why number e f v next x₀ end values times queuebytes queuecodes h x =
     (x ≤ end)
     × (end ≤ 5)
-    × (queuedHub (hubOf h (listed codes kinds names renames) (columns touched moved values times marks queuebytes queuecodes)) (part (queueOf next v e f) x end)
-    ≡ queuedHub (hubOf h₀ (listed codes kinds names renames) (columns touched moved values₀ times₀ marks queuebytes₀ queuecodes₀)) (part (queueOf next v e f) x₀ end))
+    × (queuedHub (hubOf h (listed codes kinds names renames) (columns hasbutton hasaxis values times marks queuebytes queuecodes)) (part (queueOf next v e f) x end)
+    ≡ queuedHub (hubOf h₀ (listed codes kinds names renames) (columns hasbutton hasaxis values₀ times₀ marks queuebytes₀ queuecodes₀)) (part (queueOf next v e f) x₀ end))
 
 abbrev pub μ-loop3 : tie.MeasureT-loop3
-μ-loop3 codes kinds names renames touched moved values₀ times₀ marks queuebytes₀ queuecodes₀ batch place out allowance h₀ refused at events
+μ-loop3 codes kinds names renames hasbutton hasaxis values₀ times₀ marks queuebytes₀ queuecodes₀ batch place out allowance h₀ refused at events
     steps left waiting why number e f v next x₀ end values times queuebytes queuecodes h x =
     end - x
 
 -- the inner loop: one step of the law book a turn
 abbrev pub Inv-loop2 : tie.InvT-loop2
-Inv-loop2 codes kinds names renames touched₀ moved₀ values₀ times₀ marks queuebytes₀ queuecodes₀ batch place out allowance h₀ refused at₀
-    events steps₀ left₀ touched moved values times queuebytes queuecodes h at steps left =
-    Going (hubOf h (listed codes kinds names renames) (columns touched moved values times marks queuebytes queuecodes)) batch at out events steps left
+Inv-loop2 codes kinds names renames hasbutton₀ hasaxis₀ values₀ times₀ marks queuebytes₀ queuecodes₀ batch place out allowance h₀ refused at₀
+    events steps₀ left₀ hasbutton hasaxis values times queuebytes queuecodes h at steps left =
+    Going (hubOf h (listed codes kinds names renames) (columns hasbutton hasaxis values times marks queuebytes queuecodes)) batch at out events steps left
     (rest left₀ batch
-    (standing (hubOf h₀ (listed codes kinds names renames) (columns touched₀ moved₀ values₀ times₀ marks queuebytes₀ queuecodes₀)) at₀ out events steps₀))
+    (standing (hubOf h₀ (listed codes kinds names renames) (columns hasbutton₀ hasaxis₀ values₀ times₀ marks queuebytes₀ queuecodes₀)) at₀ out events steps₀))
     × (left ≤ left₀)
 
 abbrev pub μ-loop2 : tie.MeasureT-loop2
-μ-loop2 codes kinds names renames touched₀ moved₀ values₀ times₀ marks queuebytes₀ queuecodes₀ batch place out allowance h₀ refused at₀
-    events steps₀ left₀ touched moved values times queuebytes queuecodes h at steps left =
+μ-loop2 codes kinds names renames hasbutton₀ hasaxis₀ values₀ times₀ marks queuebytes₀ queuecodes₀ batch place out allowance h₀ refused at₀
+    events steps₀ left₀ hasbutton hasaxis values times queuebytes queuecodes h at steps left =
     left
 
 -- the outer loop: one kept event a turn
 abbrev pub Inv-loop : tie.InvT-loop
-Inv-loop codes kinds names renames touched₀ moved₀ values₀ times₀ marks₀ queuebytes₀ queuecodes₀ batch place out₀ allowance h₀ refused at₀
-    events₀ steps₀ left₀ touched moved values times marks queuebytes queuecodes out h at events steps left =
-    Going (hubOf h (listed codes kinds names renames) (columns touched moved values times marks queuebytes queuecodes)) batch at out events steps left
+Inv-loop codes kinds names renames hasbutton₀ hasaxis₀ values₀ times₀ marks₀ queuebytes₀ queuecodes₀ batch place out₀ allowance h₀ refused at₀
+    events₀ steps₀ left₀ hasbutton hasaxis values times marks queuebytes queuecodes out h at events steps left =
+    Going (hubOf h (listed codes kinds names renames) (columns hasbutton hasaxis values times marks queuebytes queuecodes)) batch at out events steps left
     (rest left₀ batch
-    (standing (hubOf h₀ (listed codes kinds names renames) (columns touched₀ moved₀ values₀ times₀ marks₀ queuebytes₀ queuecodes₀)) at₀ out₀ events₀ steps₀))
+    (standing (hubOf h₀ (listed codes kinds names renames) (columns hasbutton₀ hasaxis₀ values₀ times₀ marks₀ queuebytes₀ queuecodes₀)) at₀ out₀ events₀ steps₀))
     × (length out ≡ length out₀)
 
 abbrev pub μ-loop : tie.MeasureT-loop
-μ-loop codes kinds names renames touched₀ moved₀ values₀ times₀ marks₀ queuebytes₀ queuecodes₀ batch place out₀ allowance h₀ refused at₀
-    events₀ steps₀ left₀ touched moved values times marks queuebytes queuecodes out h at events steps left =
+μ-loop codes kinds names renames hasbutton₀ hasaxis₀ values₀ times₀ marks₀ queuebytes₀ queuecodes₀ batch place out₀ allowance h₀ refused at₀
+    events₀ steps₀ left₀ hasbutton hasaxis values times marks queuebytes queuecodes out h at events steps left =
     left
 
 -- a place of the code, or a need, with these invariants and measures

@@ -25,8 +25,8 @@ stop-answer-requires c κs = search needs
 pub same-length : At tie.Need-same-length
 same-length c = omega arith
 
-pub look-requires : At tie.Need-look-requires
-look-requires c κs = search needs
+pub next-record-requires : At tie.Need-next-record-requires
+next-record-requires c κs = search needs
 
 pub find-requires : At tie.Need-find-requires
 find-requires c κs = search needs

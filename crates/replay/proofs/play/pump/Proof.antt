@@ -1,4 +1,4 @@
--- `play::pump` is safe and ends: the part of the out buffer that is lent lies in it. Assumes nothing.
+-- `play::pump` is safe and ends: the part of the out buffer that is lent lies in it.
 use mathlib.Core.Path.{sym}
 use native.Mathlib.Omega.{arith}
 use lib.Seq.{length-take-le}

@@ -1,12 +1,12 @@
--- `wire::look` meets its contract, by what waits and by what `read_record` finds. Assumes nothing.
+-- `wire::next-record` meets its contract, by what waits and by what `read_record` finds.
 use borrow.Author.Needs.{needs}
 use borrow.Author.Tests.{lt-ltb, le-ltb}
-use Rattle.rules.specs.Step.{lookedOf}
-use Rattle.wire.proofs.look.Statement.{statement}
-use Rattle.wire.proofs.look.Tie as tie
+use Rattle.rules.specs.Step.{nextRecordOf}
+use Rattle.wire.proofs.next-record.Statement.{statement}
+use Rattle.wire.proofs.next-record.Tie as tie
 
 returns : tie.Need-returns
-unfolding lookedOf
+unfolding nextRecordOf
 returns c = rw (lt-ltb _ _ (c .if1 .taken))
 
 read-record-requires : tie.Need-read-record-requires
@@ -19,13 +19,13 @@ enum-told : tie.Need-enum-told
 enum-told c = search needs
 
 returns-2 : tie.Need-returns-2
-unfolding lookedOf
+unfolding nextRecordOf
 returns-2 c = rw (le-ltb _ _ (c .before .before .before .before .if1 .left), ← c .before .before .before .read-record .ensures, c .before .read .given .1)
 
 returns-3 : tie.Need-returns-3
-unfolding lookedOf
+unfolding nextRecordOf
 returns-3 c = rw (le-ltb _ _ (c .before .before .before .if1 .left), ← c .before .before .read-record .ensures, c .enum-told .given .1)
 
-pub look-spec : {M : Type 1} → statement M
-look-spec =
+pub next-record-spec : {M : Type 1} → statement M
+next-record-spec =
     tie.close (tie.spec returns read-record-requires enum-known-read enum-told returns-2 returns-3)
