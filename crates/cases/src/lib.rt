@@ -19,6 +19,7 @@ pub const QUEUED: usize = 14;
 
 // ---- words and marks
 
+// The n-th word of a case.
 pub fn word(case: &[u8; 104], n: usize) -> u32
     requires { ⌜ n < 26 ⌝ }
     ensures { λ r. ⌜ r ≡ wordOf (now (case .entry)) n ⌝ }
@@ -26,6 +27,7 @@ pub fn word(case: &[u8; 104], n: usize) -> u32
     wire::read4(case, n * 4)
 }
 
+// The n-th word, where a function takes 64 bits.
 pub fn long(case: &[u8; 104], n: usize) -> u64
     requires { ⌜ n < 26 ⌝ }
     ensures { λ r. ⌜ r ≡ wordOf (now (case .entry)) n ⌝ }
@@ -34,6 +36,7 @@ pub fn long(case: &[u8; 104], n: usize) -> u64
     w as u64
 }
 
+// The n-th word as the bits of a binary32 number.
 pub fn value(case: &[u8; 104], n: usize) -> f32
     requires { ⌜ n < 26 ⌝ }
     ensures { λ r. ⌜ r ≡ floatOf (now (case .entry)) n ⌝ }
@@ -57,6 +60,7 @@ pub fn mark(marks: u8, weight: u8) -> bool
     marks / weight % 2 == 1
 }
 
+// Whether two truths are the same.
 pub fn agree(a: bool, b: bool) -> bool
     ensures { λ r. ⌜ r ≡ cond a b (not b) ⌝ }
 {
@@ -65,6 +69,7 @@ pub fn agree(a: bool, b: bool) -> bool
 
 // ---- events: four words
 
+// The event at the four words from n on.
 pub fn event(case: &[u8; 104], n: usize) -> Event
     requires { ⌜ n + 4 ≤ 26 ⌝ }
     ensures { λ r. ⌜ r ≡ eventIn (now (case .entry)) n ⌝ }

@@ -71,6 +71,7 @@ fn flagged(f: Flags, case: &[u8; 104]) -> bool {
     false
 }
 
+// Whether the three filters, on or off, make of the case's event what the case says.
 pub fn filtered(on: bool, case: &[u8; 104]) -> bool {
     let f = filters::filtered(on, view(case), cases::event(case, cases::GIVEN));
     let gives = f.gives;
@@ -81,6 +82,7 @@ pub fn filtered(on: bool, case: &[u8; 104]) -> bool {
     false
 }
 
+// Whether the dpad filter alone does.
 pub fn dpad(case: &[u8; 104]) -> bool {
     gave(
         hats::dpad(view(case), cases::event(case, cases::GIVEN)),
@@ -88,6 +90,7 @@ pub fn dpad(case: &[u8; 104]) -> bool {
     )
 }
 
+// Whether the jitter filter alone does.
 pub fn jitter(case: &[u8; 104]) -> bool {
     if case[3] != 0 {
         return false;
@@ -99,6 +102,7 @@ pub fn jitter(case: &[u8; 104]) -> bool {
     )
 }
 
+// Whether the deadzone filter alone does.
 pub fn deadzone(case: &[u8; 104]) -> bool {
     let z = filters::deadzoned(view(case), cases::event(case, cases::GIVEN));
     let sent = z.event;
@@ -142,6 +146,7 @@ fn element(case: &[u8; 104]) -> Element {
     }
 }
 
+// Whether dispatch makes of the case's record what the case says.
 pub fn dispatched(case: &[u8; 104]) -> bool {
     let raw = cases::whole(case, 7);
     if !scale::within(raw) {

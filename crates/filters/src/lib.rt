@@ -205,6 +205,7 @@ pub struct Sent {
     pub flags: Flags,
 }
 
+// The event through the filters in their order, if they are on: what passes, and how many events wait behind it.
 pub fn through(on: bool, v: View, e: Event) -> Sent
     ensures { λ r. ⌜ SentIs on v e r ⌝ }
 {

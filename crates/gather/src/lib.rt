@@ -49,6 +49,7 @@ pub fn present_name<'a>(
     }
 }
 
+// What stands at a record's code.
 pub fn find<'a>(
     codes: &'a [u32; 208],
     kinds: &'a [u8; 208],
@@ -79,6 +80,7 @@ pub struct PlaceMarks {
     pub hasaxis: bool,
 }
 
+// Which records a place has.
 pub fn place_marks<'a>(
     hasbutton: &'a [bool; 208],
     hasaxis: &'a [bool; 208],

@@ -34,6 +34,7 @@ pub fn dropped(e: Event) -> Event
     }
 }
 
+// An event with nothing queued behind it.
 pub fn alone(e: Event) -> Gives
     ensures { λ r. ⌜ r ≡ events.alone e ⌝ }
 {

@@ -171,6 +171,7 @@ fn axis_at(
 
 // ---- pressed
 
+// gilrs's `Gamepad::is_pressed` by a code: false for one that is not known. Refuses 6.
 pub fn is_pressed_by_code(
     head: Head,
     codes: &[u32; 208],
@@ -210,6 +211,7 @@ fn button_place<'a>(
     }
 }
 
+// The same by a button's name, or by `to_nec` where no element has it. Refuses 6, 16.
 pub fn is_pressed<'s>(
     head: Head,
     codes: &'s [u32; 208],
@@ -234,6 +236,7 @@ pub fn is_pressed<'s>(
 
 // ---- value
 
+// gilrs's `Gamepad::value` by a code: the axis record's, else the button record's, else 0.0. Refuses 6.
 pub fn value_by_code(
     head: Head,
     codes: &[u32; 208],
@@ -255,6 +258,7 @@ pub fn value_by_code(
     value_at(hasbutton, hasaxis, values, times, marks, refusal, place)
 }
 
+// The same by an axis's name. Refuses 6, 16.
 pub fn value<'s>(
     head: Head,
     names: &'s [u8; 208],
@@ -279,6 +283,7 @@ pub fn value<'s>(
 
 // ---- records
 
+// The button record of a code, or Absent. Refuses 6.
 pub fn button_data_by_code(
     head: Head,
     codes: &[u32; 208],
@@ -299,6 +304,7 @@ pub fn button_data_by_code(
     button_at(hasbutton, values, times, marks, refusal, place)
 }
 
+// The button record of a name, or Absent. Refuses 6, 16.
 pub fn button_data<'s>(
     head: Head,
     names: &'s [u8; 208],
@@ -320,6 +326,7 @@ pub fn button_data<'s>(
     button_at(hasbutton, values, times, marks, refusal, place)
 }
 
+// The axis record of a code, or Absent. Refuses 6.
 pub fn axis_data_by_code(
     head: Head,
     codes: &[u32; 208],
@@ -339,6 +346,7 @@ pub fn axis_data_by_code(
     axis_at(hasaxis, values, times, refusal, place)
 }
 
+// The axis record of a name, or Absent. Refuses 6, 16.
 pub fn axis_data<'s>(
     head: Head,
     names: &'s [u8; 208],

@@ -65,6 +65,7 @@ fn written(case: &[u8; 104]) -> bool {
     same_button(b, button(case, after, 16)) && same_axis(a, axis(case, 19))
 }
 
+// Whether the state reads, and is written by the case's event, as the case says.
 pub fn stored(case: &[u8; 104]) -> bool {
     let before = case[1];
     let known = cases::mark(before, 1);
@@ -82,6 +83,7 @@ pub fn stored(case: &[u8; 104]) -> bool {
 
 // ---- repeat
 
+// Whether the case's button is due, and gives the event, as the case says.
 pub fn repeated(case: &[u8; 104]) -> bool {
     let marks = case[1];
     let known = cases::mark(marks, 1);
