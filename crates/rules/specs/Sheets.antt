@@ -8,8 +8,6 @@ use lib.IntN.{ℤ, pos, negsuc}
 use lib.Signed.{ltZ}
 use Rattle.numbers.specs.Constants.{withinOf, absent}
 use Rattle.rules.specs.declared.SheetElement.{SheetElement}
-use Rattle.rules.specs.declared.SheetRead.{SheetRead}
-use Rattle.rules.specs.declared.SheetRead.the-variants as sheetRead
 use Rattle.rules.specs.Names.{nameAllowed, noName, elementLimit, lastDeadzone}
 use Rattle.rules.specs.Forms.{fieldOf, signedOf, bytesOf, bitsOfSigned, opens, version}
 
@@ -129,14 +127,6 @@ sheetRefusal s =
     cond (not (sheetFits s)) 3
     (cond (ltb lastHats (hatsOf s) || not (elementsFit s (countOf s) 0)) 4
     (cond (standsTwice s (sheetOpening + nameOffset) elementSize (countOf s) 0) 5 0))
-
-abbrev pub pickSheet : Bool → ℕ → ℕ → ℕ → SheetRead
-pickSheet true hats n number = sheetRead.Sheet hats n
-pickSheet false hats n number = sheetRead.Refused number
-
-unfoldable pub readSheet : List ℕ → SheetRead
-unfolding sheetRefusal hatsOf countOf
-readSheet s = pickSheet (eqb (sheetRefusal s) 0) (hatsOf s) (countOf s) (sheetRefusal s)
 
 -- ---- "rename list not one name per element" 3, a name that is none 4, a name twice 5
 

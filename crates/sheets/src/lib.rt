@@ -7,14 +7,13 @@ use rules::ELEMENT_SIZE;
 use rules::NO_NAME;
 use rules::SHEET_OPENING;
 use rules::SheetElement;
-use rules::SheetRead;
 ghost use mathlib.Core.Path.{_≡_};
 ghost use Prim.Native.Nat.{_+_, _-_, _*_, _≤_, _<_};
 ghost use lib.ListN.{length};
 ghost use lib.Signed.{ltZ};
 ghost use Rattle.rules.specs.Names.{nameAllowed};
 ghost use Rattle.sheets.specs.Spread.{Spread, standsAgain};
-ghost use Rattle.rules.specs.Sheets.{elementFields, elementOf, sheetFits, isZero, buttonFits, axisFits, elementFits, rises, elementsFit, standsIn, standsTwice, sheetRefusal, readSheet, namesFit, renameListRefusal};
+ghost use Rattle.rules.specs.Sheets.{elementFields, elementOf, sheetFits, isZero, buttonFits, axisFits, elementFits, rises, elementsFit, standsIn, standsTwice, sheetRefusal, namesFit, renameListRefusal};
 
 // ---- sizes, kinds and limits
 
@@ -240,16 +239,6 @@ pub fn sheet_refusal(s: &[u8]) -> u8
         5,
     );
     first(hats, first(rules, names))
-}
-
-pub fn read_sheet(s: &[u8]) -> SheetRead
-    ensures { λ r. ⌜ r ≡ readSheet (now (s .entry)) ⌝ }
-{
-    let number = sheet_refusal(s);
-    if number == 0 {
-        return SheetRead::Sheet(s[3], s[4]);
-    }
-    SheetRead::Refused(number)
 }
 
 // ---- rename lists
