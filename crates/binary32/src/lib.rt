@@ -41,7 +41,7 @@ pub fn bits_of(x: f32) -> u32
     f32::to_bits(x)
 }
 
-// 000's `utils::clamp`
+// gilrs's `utils::clamp`
 pub fn clamp(x: f32, lo: f32, hi: f32) -> f32
     ensures { λ r. ⌜ r ≡ clampOf x lo hi ⌝ }
 {

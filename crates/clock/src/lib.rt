@@ -35,7 +35,7 @@ pub fn reset_counter(h: Hub) -> Hub
 
 // ---- repeat: 15, 12
 
-// The first due button of the connected pads, with the clock as input: 000's `Repeat`.
+// The first due button of the connected pads, with the clock as input: gilrs's `Repeat`.
 pub fn repeat(h: Hub, after: u64, every: u64, clock: u64) -> RepeatAnswer
     ensures { λ r. ⌜ r ≡ repeatOf h after every clock ⌝ }
 {

@@ -199,7 +199,7 @@ fn rename_refusal(h: Hub, p: u8, list: &[u8]) -> u8
     ensures { λ r. ⌜ r ≡ renameRefusal h p (now (list .entry)) ⌝ }
 {
     refusals::first(
-        refusals::unless_fits(refusals::stands(h.pads, p), 6),
+        refusals::unless_fits(refusals::is_registered(h.pads, p), 6),
         refusals::first(
             refusals::unless_fits(pad::pad_bool(&h.connected, p), 7),
             sheets::rename_list_refusal(list, pad::pad_number(&h.counts, p)),

@@ -191,7 +191,7 @@ fn rename_refusal(head: Head, p: u8, list: &[u8]) -> u8
     ensures { λ r. ⌜ ((s : Listed) (t : Columns) → r ≡ renameRefusal (hubOf head s t) p (now (list .entry))) ⌝ }
 {
     refusals::first(
-        refusals::unless_fits(refusals::stands(head.pads, p), 6),
+        refusals::unless_fits(refusals::is_registered(head.pads, p), 6),
         refusals::first(
             refusals::unless_fits(pad::pad_bool(&head.connected, p), 7),
             sheets::rename_list_refusal(list, pad::pad_number(&head.counts, p)),

@@ -1,4 +1,4 @@
-// What a raw record gives: 000's `next_event_priv`, on the record, the element's present name, what the hub keeps of it, whether its code reads
+// What a raw record gives: gilrs's `next_event_priv`, on the record, the element's present name, what the hub keeps of it, whether its code reads
 // pressed, and the hub's settings.
 ghost use mathlib.Core.Path.{_≡_};
 ghost use mathlib.Core.Bool.{true, not, _&&_};

@@ -1,4 +1,4 @@
-// The filters in their order, dpad, jitter, deadzone, as decisions on what each sees of the hub: 000's `Jitter` and `deadzone`, after the crate
+// The filters in their order, dpad, jitter, deadzone, as decisions on what each sees of the hub: gilrs's `Jitter` and `deadzone`, after the crate
 // `hats`.
 ghost use mathlib.Core.Path.{_≡_};
 ghost use mathlib.Core.Bool.{cond};
@@ -18,7 +18,7 @@ use rules::Zoned;
 
 // ---- jitter
 
-// 000's `Jitter`
+// gilrs's `Jitter`
 pub fn jittered(v: View, e: Event) -> Event
     ensures { λ r. ⌜ r ≡ law.jitteredOf v e ⌝ }
 {
@@ -117,7 +117,7 @@ fn stick(v: View, e: Event, n: u8, c: u32, pair: Pair) -> Zoned
     }
 }
 
-// 000's `deadzone`
+// gilrs's `deadzone`
 pub fn deadzoned(v: View, e: Event) -> Zoned
     ensures { λ r. ⌜ r ≡ law.deadzonedOf v e ⌝ }
 {

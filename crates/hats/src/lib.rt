@@ -1,4 +1,4 @@
-// A hat's axis as the buttons of its directions: 000's `axis_dpad_to_button`, on what it sees of the hub.
+// A hat's axis as the buttons of its directions: gilrs's `axis_dpad_to_button`, on what it sees of the hub.
 ghost use mathlib.Core.Path.{_≡_};
 ghost use mathlib.Core.Bool.{true, false, cond};
 ghost use Rattle.rules.specs.Events as events;
@@ -12,7 +12,7 @@ use rules::View;
 
 // ---- an event of the same pad and time, and what is queued behind one
 
-// 000's `..ev`
+// gilrs's `..ev`
 pub fn with(e: Event, t: EventType) -> Event
     ensures { λ r. ⌜ r ≡ events.with e t ⌝ }
 {
@@ -23,7 +23,7 @@ pub fn with(e: Event, t: EventType) -> Event
     }
 }
 
-// 000's `Event::drop`
+// gilrs's `Event::drop`
 pub fn dropped(e: Event) -> Event
     ensures { λ r. ⌜ r ≡ events.dropped e ⌝ }
 {
@@ -127,7 +127,7 @@ fn hat(v: View, e: Event, n: u8, x: f32) -> Gives
     centred(e, v.positive, v.negative, name, code, othername, othercode)
 }
 
-// 000's `axis_dpad_to_button`
+// gilrs's `axis_dpad_to_button`
 pub fn dpad(v: View, e: Event) -> Gives
     ensures { λ r. ⌜ Converted v e r ⌝ }
 {

@@ -11,7 +11,7 @@ use Rattle.rules.specs.declared.Hub.{Hub}
 use Rattle.rules.specs.declared.RawRecord.{RawRecord}
 use Rattle.rules.specs.Forms.{kindAxis}
 use Rattle.rules.specs.Sheets.{elementButton, elementAxis}
-use Rattle.rules.specs.Refusals.{standsOf, elementRefusal, first, unlessFits, fieldsRefusal, recordRefusal}
+use Rattle.rules.specs.Refusals.{isRegistered, elementRefusal, first, unlessFits, fieldsRefusal, recordRefusal}
 use Rattle.rules.specs.Step.{recordKind}
 use Rattle.history.specs.Steps.{lookAt}
 
@@ -49,10 +49,10 @@ pub record Good (h : Hub) (r : RawRecord) : Type 0 where
   pub within : withinOf (r .value) ≡ true
 
 pub good : (h : Hub) (r : RawRecord) → recordRefusal (lookAt r) (h .pads) (recordKind h r) ≡ 0 → Good h r
-unfolding recordRefusal fieldsRefusal standsOf
+unfolding recordRefusal fieldsRefusal isRegistered
 good h r e =
     let fields = first-zero (unlessFits true 8) (fieldsRefusal r (h .pads) (recordKind h r)) e .1 in
-    let a = first-zero (unlessFits (standsOf (h .pads) (r .pad)) 6) _ fields in
+    let a = first-zero (unlessFits (isRegistered (h .pads) (r .pad)) 6) _ fields in
     let b = first-zero (elementRefusal (r .kind) (recordKind h r)) _ (a .1) in
     let c = first-zero (unlessFits (withinOf (r .value)) 11) _ (b .1) in
     record {

@@ -16,7 +16,7 @@ use Rattle.rules.specs.declared.TruthAnswer.the-variants as truthAnswer
 use Rattle.rules.specs.declared.ValueAnswer.the-variants as valueAnswer
 use Rattle.rules.specs.Names.{padLimit, nowhere, noName, isAxis, isButton, isHat, dpadRight, unknownAxis, dpadX, positiveCode, negativeCode, codeUp, codeDown, codeLeft, codeRight}
 use Rattle.rules.specs.Sheets.{elementButton, elementAxis}
-use Rattle.rules.specs.Refusals.{standsOf, unlessFits}
+use Rattle.rules.specs.Refusals.{isRegistered, unlessFits}
 use Rattle.rules.specs.State.{readPressed, readValue}
 use Rattle.rules.specs.Hub.{placeIn, kindAt, elementAt, pressedAt, hasAxisAt, valueAt}
 use Rattle.rules.specs.Queries.{padRefusal, truthBy, valueBy, pressedByCode, valueByCode}
@@ -81,12 +81,12 @@ unfolding valueByCode
 asked-value h p c = refl
 
 -- of a registered pad they are not refused
-pub standing-truth : (pads p : ℕ) (b : Bool) → p < pads → p < padLimit → truthBy (unlessFits (standsOf pads p) 6) b ≡ truthAnswer.Is b
-unfolding standsOf
+pub standing-truth : (pads p : ℕ) (b : Bool) → p < pads → p < padLimit → truthBy (unlessFits (isRegistered pads p) 6) b ≡ truthAnswer.Is b
+unfolding isRegistered
 standing-truth pads p b old few = rw (lt-ltb p pads old, lt-ltb p padLimit few)
 
-pub standing-value : (pads p : ℕ) (v : Float) → p < pads → p < padLimit → valueBy (unlessFits (standsOf pads p) 6) true v ≡ valueAnswer.Value v
-unfolding standsOf
+pub standing-value : (pads p : ℕ) (v : Float) → p < pads → p < padLimit → valueBy (unlessFits (isRegistered pads p) 6) true v ≡ valueAnswer.Value v
+unfolding isRegistered
 standing-value pads p v old few = rw (lt-ltb p pads old, lt-ltb p padLimit few)
 
 -- they read the button record, where there is no axis record

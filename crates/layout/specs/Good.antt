@@ -12,7 +12,7 @@ use Rattle.numbers.specs.Constants.{absent, withinOf, deadzoneWithinOf, deadzon
 use Rattle.rules.specs.declared.SheetElement.{SheetElement}
 use Rattle.rules.specs.Names.{elementLimit, lastDeadzone, nameAllowed}
 use Rattle.rules.specs.Forms.{opens}
-use Rattle.rules.specs.Sheets.{sheetOpening, elementSize, elementButton, elementAxis, lastHats, nameOffset, elementOf, hatsOf, countOf, sheetFits, buttonFits, axisFits, elementFits, rises, elementsFit, standsTwice, sheetRefusal}
+use Rattle.rules.specs.Sheets.{sheetOpening, elementSize, elementButton, elementAxis, lastHats, nameOffset, elementOf, hatsOf, countOf, sheetFits, buttonFits, axisFits, elementFits, rises, elementsFit, occursTwice, sheetRefusal}
 
 pub record Good (s : List ℕ) (n : ℕ) : Type 0 where
   pub size : length s ≡ sheetOpening + elementSize * n
@@ -72,7 +72,7 @@ unfolding sheetRefusal sheetFits
 good s e =
     let parts =
     not-refused (sheetFits s) (ltb lastHats (hatsOf s)) (elementsFit s (countOf s) 0)
-    (standsTwice s (sheetOpening + nameOffset) elementSize (countOf s) 0) e in
+    (occursTwice s (sheetOpening + nameOffset) elementSize (countOf s) 0) e in
     let right = both-right (eqb (length s) (sheetOpening + elementSize * countOf s)) (opens s 0 (length s) && leb (countOf s) elementLimit) (parts .0) in
     record {
       size =

@@ -1,4 +1,4 @@
--- 01's "held to lo..hi", as 000's `utils::clamp` has it. Definition only.
+-- 01's "held to lo..hi", as gilrs's `utils::clamp` has it. Definition only.
 use mathlib.Core.Bool.{cond}
 use lib.Ieee as Ieee
 use lib.Ieee.{Float}

@@ -19,11 +19,11 @@ two32 = Ieee.ofBits binary32 0x40000000
 abbrev pub minusOne32 : Float
 minusOne32 = Ieee.ofBits binary32 0xbf800000
 
--- the binary32 nearest to 0.01: the threshold of 000's `Jitter::new`
+-- the binary32 nearest to 0.01: the threshold of gilrs's `Jitter::new`
 abbrev pub jitterLimit : Float
 jitterLimit = Ieee.ofBits binary32 0x3c23d70a
 
--- the binary32 nearest to 0.1: 000's `DEFAULT_DEADZONE`
+-- the binary32 nearest to 0.1: gilrs's `DEFAULT_DEADZONE`
 abbrev pub defaultThreshold : Float
 defaultThreshold = Ieee.ofBits binary32 0x3dcccccd
 

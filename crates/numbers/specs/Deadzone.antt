@@ -1,4 +1,4 @@
--- 01's "Deadzone": 000's `apply_deadzone`. Definitions only.
+-- 01's "Deadzone": gilrs's `apply_deadzone`. Definitions only.
 use mathlib.Core.Bool.{Bool, cond}
 use lib.Ieee as Ieee
 use lib.Ieee.{Float, binary32}

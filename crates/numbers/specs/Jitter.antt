@@ -1,4 +1,4 @@
--- 01's "Jitter": the test of 000's `Jitter`. Definitions only.
+-- 01's "Jitter": the test of gilrs's `Jitter`. Definitions only.
 use mathlib.Core.Bool.{Bool, cond, _&&_}
 use lib.Ieee as Ieee
 use lib.Ieee.{Float, binary32}

@@ -1,4 +1,4 @@
--- 01's "Scaling" and "Deadzone threshold": 000's `axis_value`, `btn_value` and `Gamepad::deadzone`. Definitions only.
+-- 01's "Scaling" and "Deadzone threshold": gilrs's `axis_value`, `btn_value` and `Gamepad::deadzone`. Definitions only.
 -- An axis element is kept as three values that its min and max give once: `lowOf`, `rangeOf`, `oddOf`. The scaled value of a raw one reads those
 -- (`axisScaledOf`, `buttonScaledOf`); `axisValueOf` and `buttonValueOf` say the same of min and max, in 01's words.
 use mathlib.Core.Bool.{Bool, false, cond, _&&_}
@@ -21,7 +21,7 @@ lowOf min = Ieee.ofInt binary32 min
 unfoldable pub rangeOf : ℤ → ℤ → Float
 rangeOf min max = Ieee.sub binary32 (Ieee.ofInt binary32 max) (Ieee.ofInt binary32 min)
 
--- 000's `i_range % 2 == 1`
+-- gilrs's `i_range % 2 == 1`
 abbrev pub isOne : ℤ → Bool
 isOne (pos n) = eqb n 1
 isOne (negsuc n) = false

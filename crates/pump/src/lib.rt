@@ -1,4 +1,4 @@
-// Document 01's pump: 000's `next_event_inner` as a loop that ends at a stop, an allowance of steps, and events written as bytes.
+// Document 01's pump: gilrs's `next_event_inner` as a loop that ends at a stop, an allowance of steps, and events written as bytes.
 ghost use mathlib.Core.Path.{_≡_};
 ghost use Rattle.rules.specs.Pump.{pumpOf};
 ghost use Rattle.steps.specs.Runs.{leaves};

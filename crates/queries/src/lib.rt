@@ -217,7 +217,7 @@ pub fn axis_data(h: Hub, p: u8, name: u8) -> AxisAnswer
 
 // ---- the sheet: thresholds, names and codes
 
-// "Deadzone threshold. Axis elements only": 000's `deadzone_threshold`.
+// "Deadzone threshold. Axis elements only": gilrs's `deadzone_threshold`.
 pub fn deadzone_threshold(h: Hub, p: u8, code: u32) -> ValueAnswer
     ensures { λ r. ⌜ r ≡ thresholdByCode h p code ⌝ }
 {
@@ -228,7 +228,7 @@ pub fn deadzone_threshold(h: Hub, p: u8, code: u32) -> ValueAnswer
     value_or_absent(refusal, kind == ELEMENT_AXIS, element.threshold)
 }
 
-// 000's `axis_or_btn_name`.
+// gilrs's `axis_or_btn_name`.
 pub fn axis_or_btn_name(h: Hub, p: u8, code: u32) -> NumberAnswer
     ensures { λ r. ⌜ r ≡ nameByCode h p code ⌝ }
 {
@@ -238,7 +238,7 @@ pub fn axis_or_btn_name(h: Hub, p: u8, code: u32) -> NumberAnswer
     number(refusal, name != NO_NAME, name as u32)
 }
 
-// 000's `button_code` and `axis_code`: the name's byte says which.
+// gilrs's `button_code` and `axis_code`: the name's byte says which.
 pub fn code_of_name(h: Hub, p: u8, name: u8) -> NumberAnswer
     ensures { λ r. ⌜ r ≡ codeByName h p name ⌝ }
 {

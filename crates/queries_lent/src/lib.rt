@@ -369,7 +369,7 @@ pub fn axis_data<'s>(
 
 // ---- the sheet: thresholds, names and codes
 
-// "Deadzone threshold. Axis elements only": 000's `deadzone_threshold`.
+// "Deadzone threshold. Axis elements only": gilrs's `deadzone_threshold`.
 pub fn deadzone_threshold(
     head: Head,
     codes: &[u32; 208],
@@ -391,7 +391,7 @@ pub fn deadzone_threshold(
     value_or_absent(refusal, kind == ELEMENT_AXIS, element.threshold)
 }
 
-// 000's `axis_or_btn_name`.
+// gilrs's `axis_or_btn_name`.
 pub fn axis_or_btn_name<'s>(
     head: Head,
     codes: &[u32; 208],
@@ -411,7 +411,7 @@ pub fn axis_or_btn_name<'s>(
     number(refusal, name != NO_NAME, name as u32)
 }
 
-// 000's `button_code` and `axis_code`: the name's byte says which.
+// gilrs's `button_code` and `axis_code`: the name's byte says which.
 pub fn code_of_name<'s>(
     head: Head,
     codes: &[u32; 208],

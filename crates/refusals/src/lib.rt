@@ -1,7 +1,7 @@
 // The refusals of document 01 by number: the first that holds in its order, 0 for none. Each function equals its definition in the law book for every
 // input.
 ghost use mathlib.Core.Path.{_≡_};
-ghost use Rattle.rules.specs.Refusals.{inUnit, thresholdsRefusal, standsOf, valueFits, timeFits, elementRefusal, fieldsRefusal, recordRefusal};
+ghost use Rattle.rules.specs.Refusals.{inUnit, thresholdsRefusal, isRegistered, valueFits, timeFits, elementRefusal, fieldsRefusal, recordRefusal};
 ghost use Rattle.rules.specs.Refusals.{codeRefusal, formRefusal, insertRefusal, pumpRefusal, repeatRefusal};
 ghost use Rattle.rules.specs.Refusals.{buttonQueryRefusal, axisQueryRefusal, nameQueryRefusal, unlessFits};
 ghost use Rattle.rules.specs.Refusals as Refusals;
@@ -68,8 +68,8 @@ pub fn thresholds_refusal(pressed: f32, released: f32) -> u8
 // ---- 6
 
 // Whether a pad is registered.
-pub fn stands(pads: u8, p: u8) -> bool
-    ensures { λ r. ⌜ r ≡ standsOf pads p ⌝ }
+pub fn is_registered(pads: u8, p: u8) -> bool
+    ensures { λ r. ⌜ r ≡ isRegistered pads p ⌝ }
 {
     choices::both(p < pads, p < PADS)
 }
@@ -118,7 +118,7 @@ pub fn fields_refusal(raw: RawRecord, pads: u8, kind: u8) -> u8
     ensures { λ r. ⌜ r ≡ fieldsRefusal raw pads kind ⌝ }
 {
     first(
-        unless_fits(stands(pads, raw.pad), 6),
+        unless_fits(is_registered(pads, raw.pad), 6),
         first(
             element_refusal(raw.kind, kind),
             first(
@@ -150,7 +150,7 @@ pub fn form_refusal(f: EventForm, pads: u8, place: usize) -> u8
     ensures { λ r. ⌜ r ≡ formRefusal f pads place ⌝ }
 {
     first(
-        unless_fits(stands(pads, f.pad), 6),
+        unless_fits(is_registered(pads, f.pad), 6),
         first(
             code_refusal(f.kind, place),
             first(
@@ -201,16 +201,19 @@ pub fn repeat_refusal(after: u64, every: u64, now: u64) -> u8
 
 // 6: a pad that is not registered.
 pub fn pad_refusal(pads: u8, p: u8) -> u8
-    ensures { λ r. ⌜ r ≡ unlessFits (standsOf pads p) 6 ⌝ }
+    ensures { λ r. ⌜ r ≡ unlessFits (isRegistered pads p) 6 ⌝ }
 {
-    unless_fits(stands(pads, p), 6)
+    unless_fits(is_registered(pads, p), 6)
 }
 
 // 6, then 16 where the name is not of the sort asked.
 fn named_refusal(pads: u8, p: u8, sort: bool) -> u8
-    ensures { λ r. ⌜ r ≡ Refusals.first (unlessFits (standsOf pads p) 6) (unlessFits sort 16) ⌝ }
+    ensures { λ r. ⌜ r ≡ Refusals.first (unlessFits (isRegistered pads p) 6) (unlessFits sort 16) ⌝ }
 {
-    first(unless_fits(stands(pads, p), 6), unless_fits(sort, 16))
+    first(
+        unless_fits(is_registered(pads, p), 6),
+        unless_fits(sort, 16),
+    )
 }
 
 // The refusal of a query by a button's name: 6, 16.

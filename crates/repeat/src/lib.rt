@@ -1,4 +1,4 @@
-// Repeat: 000's `Repeat`, with the clock as input. Whether a record is due, the event that it gives, and the scan for the first due place.
+// Repeat: gilrs's `Repeat`, with the clock as input. Whether a record is due, the event that it gives, and the scan for the first due place.
 ghost use mathlib.Core.Path.{_≡_};
 ghost use mathlib.Core.Bool.{true, false, _&&_};
 ghost use Prim.Native.Nat.{_<_, _≤_, _/_};

@@ -27,7 +27,7 @@ use Rattle.rules.specs.Names.{padLimit, placesPerPad, nowhere, noName, q
 use Rattle.rules.specs.Forms.{readEvent}
 use Rattle.rules.specs.Sheets.{sheetRefusal, hatsOf, countOf, renameListRefusal}
 use Rattle.rules.specs.Places.{placeOf, noElement, rowsOf, convertsOf, clearedOf, oneIf}
-use Rattle.rules.specs.Refusals.{thresholdsRefusal, standsOf, formRefusal, insertRefusal, first, unlessFits}
+use Rattle.rules.specs.Refusals.{thresholdsRefusal, isRegistered, formRefusal, insertRefusal, first, unlessFits}
 use Rattle.rules.specs.Events.{formEvent}
 use Rattle.rules.specs.State.{nextCounter}
 use Rattle.rules.specs.Setters.{withCounter, withSheet, withRows, withNames, withMarks, withState, withFlags, withQueue}
@@ -161,9 +161,9 @@ renamedAt h p renames =
 
 -- "Rename: 6, 7, 3, 4, 5"; 7: "rename of a disconnected pad"
 unfoldable pub renameRefusal : Hub → ℕ → List ℕ → ℕ
-unfolding standsOf renameListRefusal
+unfolding isRegistered renameListRefusal
 renameRefusal h p list =
-    first (unlessFits (standsOf (h .pads) p) 6)
+    first (unlessFits (isRegistered (h .pads) p) 6)
     (first (unlessFits (getD (h .connected) p false) 7) (renameListRefusal list (getD (h .counts) p 0)))
 
 abbrev pub renameBy : ℕ → Hub → ℕ → List ℕ → Answered

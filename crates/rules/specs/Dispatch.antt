@@ -1,4 +1,4 @@
--- Dispatch: what a raw record gives, 000's `next_event_priv`. Definitions only.
+-- Dispatch: what a raw record gives, gilrs's `next_event_priv`. Definitions only.
 use Prim.Native.Nat.{ℕ}
 use mathlib.Core.Bool.{Bool, true, false, cond, not, _&&_}
 use lib.Dec.{eqb}

@@ -127,7 +127,7 @@ isDropped e = droppedType (e .event)
 abbrev pub dropped : Event → Event
 dropped e = record { pad = e .pad; time = e .time; event = Dropped }
 
--- another event of the same pad and time: 000's `..ev`
+-- another event of the same pad and time: gilrs's `..ev`
 abbrev pub with : Event → EventType → Event
 with e t = record { pad = e .pad; time = e .time; event = t }
 

@@ -1,4 +1,4 @@
--- The filters in their order, dpad, jitter, deadzone, on what each sees of the hub: 000's `axis_dpad_to_button`, `Jitter` and `deadzone`.
+-- The filters in their order, dpad, jitter, deadzone, on what each sees of the hub: gilrs's `axis_dpad_to_button`, `Jitter` and `deadzone`.
 -- Definitions only.
 use Prim.Native.Nat.{ℕ, _+_}
 use mathlib.Core.Bool.{Bool, true, false, cond, not, _&&_}

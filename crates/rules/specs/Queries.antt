@@ -22,12 +22,12 @@ use Rattle.rules.specs.declared.NumberAnswer.the-variants as numberAnswe
 use Rattle.rules.specs.Names.{nowhere, noName, toNec}
 use Rattle.rules.specs.Sheets.{elementAxis}
 use Rattle.rules.specs.Places.{placeOf, namedOf, presentNames}
-use Rattle.rules.specs.Refusals.{standsOf, unlessFits, buttonQueryRefusal, axisQueryRefusal, nameQueryRefusal}
+use Rattle.rules.specs.Refusals.{isRegistered, unlessFits, buttonQueryRefusal, axisQueryRefusal, nameQueryRefusal}
 use Rattle.rules.specs.Hub.{placeIn, namesIn, nameIn, kindAt, elementAt, buttonAt, axisAt, hasButtonAt, hasAxisAt, pressedAt, valueAt}
 
 -- 6 alone: a query by a code, or by a pad
 abbrev pub padRefusal : Hub → ℕ → ℕ
-padRefusal h p = unlessFits (standsOf (h .pads) p) 6
+padRefusal h p = unlessFits (isRegistered (h .pads) p) 6
 
 -- the place that has a name
 abbrev pub namedIn : Hub → ℕ → ℕ → ℕ
@@ -40,7 +40,7 @@ truthBy zero b = truthAnswer.Is b
 truthBy (suc number) b = truthAnswer.Refused (suc number)
 
 unfoldable pub pressedByCode : Hub → ℕ → ℕ → TruthAnswer
-unfolding standsOf placeOf pressedAt
+unfolding isRegistered placeOf pressedAt
 pressedByCode h p c = truthBy (padRefusal h p) (pressedAt h (placeIn h p c))
 
 -- "`is_pressed` by a name that no element has falls back to `to_nec`"
@@ -57,7 +57,7 @@ unfolding buttonQueryRefusal buttonPlaceOf pressedAt
 pressedByName h p n = truthBy (buttonQueryRefusal (h .pads) p n) (pressedAt h (buttonPlace h p n))
 
 unfoldable pub connectedOf : Hub → ℕ → TruthAnswer
-unfolding standsOf
+unfolding isRegistered
 connectedOf h p = truthBy (padRefusal h p) (getD (h .connected) p false)
 
 -- ---- value
@@ -68,7 +68,7 @@ valueBy zero false v = valueAnswer.Absent
 valueBy (suc number) here v = valueAnswer.Refused (suc number)
 
 unfoldable pub valueByCode : Hub → ℕ → ℕ → ValueAnswer
-unfolding standsOf placeOf valueAt
+unfolding isRegistered placeOf valueAt
 valueByCode h p c = valueBy (padRefusal h p) true (valueAt h (placeIn h p c))
 
 unfoldable pub valueByName : Hub → ℕ → ℕ → ValueAnswer
@@ -77,7 +77,7 @@ valueByName h p n = valueBy (axisQueryRefusal (h .pads) p n) true (valueAt h (na
 
 -- "Deadzone threshold. Axis elements only"
 unfoldable pub thresholdByCode : Hub → ℕ → ℕ → ValueAnswer
-unfolding standsOf placeOf
+unfolding isRegistered placeOf
 thresholdByCode h p c =
     valueBy (padRefusal h p) (eqb (kindAt h (placeIn h p c)) elementAxis) (elementAt h (placeIn h p c) .threshold)
 
@@ -89,7 +89,7 @@ buttonBy zero false b = buttonAnswer.Absent
 buttonBy (suc number) here b = buttonAnswer.Refused (suc number)
 
 unfoldable pub buttonByCode : Hub → ℕ → ℕ → ButtonAnswer
-unfolding standsOf placeOf
+unfolding isRegistered placeOf
 buttonByCode h p c = buttonBy (padRefusal h p) (hasButtonAt h (placeIn h p c)) (buttonAt h (placeIn h p c))
 
 unfoldable pub buttonByName : Hub → ℕ → ℕ → ButtonAnswer
@@ -102,7 +102,7 @@ axisBy zero false a = axisAnswer.Absent
 axisBy (suc number) here a = axisAnswer.Refused (suc number)
 
 unfoldable pub axisByCode : Hub → ℕ → ℕ → AxisAnswer
-unfolding standsOf placeOf
+unfolding isRegistered placeOf
 axisByCode h p c = axisBy (padRefusal h p) (hasAxisAt h (placeIn h p c)) (axisAt h (placeIn h p c))
 
 unfoldable pub axisByName : Hub → ℕ → ℕ → AxisAnswer
@@ -118,7 +118,7 @@ numberBy (suc number) here x = numberAnswer.Refused (suc number)
 
 -- `axis_or_btn_name`
 unfoldable pub nameByCode : Hub → ℕ → ℕ → NumberAnswer
-unfolding standsOf placeOf presentNames
+unfolding isRegistered placeOf presentNames
 nameByCode h p c = numberBy (padRefusal h p) (cond (eqb (nameIn h p (placeIn h p c)) noName) false true) (nameIn h p (placeIn h p c))
 
 -- `button_code`, `axis_code`

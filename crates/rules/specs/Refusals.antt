@@ -24,8 +24,8 @@ thresholdsRefusal pressed released = cond (inUnit pressed && (inUnit released &&
 
 -- ---- 6: "pad not registered"
 
-unfoldable pub standsOf : ℕ → ℕ → Bool
-standsOf pads p = ltb p pads && ltb p padLimit
+unfoldable pub isRegistered : ℕ → ℕ → Bool
+isRegistered pads p = ltb p pads && ltb p padLimit
 
 -- ---- 11 and 12
 
@@ -52,9 +52,9 @@ abbrev pub unlessFits : Bool → ℕ → ℕ
 unlessFits fits number = cond fits 0 number
 
 unfoldable pub fieldsRefusal : RawRecord → ℕ → ℕ → ℕ
-unfolding standsOf elementRefusal timeFits withinOf
+unfolding isRegistered elementRefusal timeFits withinOf
 fieldsRefusal r pads kind =
-    first (unlessFits (standsOf pads (r .pad)) 6)
+    first (unlessFits (isRegistered pads (r .pad)) 6)
     (first (elementRefusal (r .kind) kind)
     (first (unlessFits (withinOf (r .value)) 11) (unlessFits (timeFits (r .time)) 12)))
 
@@ -68,9 +68,9 @@ unfoldable pub codeRefusal : ℕ → ℕ → ℕ
 codeRefusal kind place = cond (ltb eventAxis kind) 0 (unlessFits (ltb place nowhere) 9)
 
 unfoldable pub formRefusal : EventForm → ℕ → ℕ → ℕ
-unfolding standsOf codeRefusal valueFits timeFits
+unfolding isRegistered codeRefusal valueFits timeFits
 formRefusal f pads place =
-    first (unlessFits (standsOf pads (f .pad)) 6)
+    first (unlessFits (isRegistered pads (f .pad)) 6)
     (first (codeRefusal (f .kind) place)
     (first (unlessFits (valueFits (f .bits)) 11) (unlessFits (timeFits (f .time)) 12)))
 
@@ -94,13 +94,13 @@ repeatRefusal after every now =
 -- ---- "Query: 6, 16"
 
 unfoldable pub buttonQueryRefusal : ℕ → ℕ → ℕ → ℕ
-unfolding standsOf namesButton
-buttonQueryRefusal pads p name = first (unlessFits (standsOf pads p) 6) (unlessFits (namesButton name) 16)
+unfolding isRegistered namesButton
+buttonQueryRefusal pads p name = first (unlessFits (isRegistered pads p) 6) (unlessFits (namesButton name) 16)
 
 unfoldable pub axisQueryRefusal : ℕ → ℕ → ℕ → ℕ
-unfolding standsOf namesAxis
-axisQueryRefusal pads p name = first (unlessFits (standsOf pads p) 6) (unlessFits (namesAxis name) 16)
+unfolding isRegistered namesAxis
+axisQueryRefusal pads p name = first (unlessFits (isRegistered pads p) 6) (unlessFits (namesAxis name) 16)
 
 unfoldable pub nameQueryRefusal : ℕ → ℕ → ℕ → ℕ
-unfolding standsOf namesButton namesAxis
-nameQueryRefusal pads p name = first (unlessFits (standsOf pads p) 6) (unlessFits (namesButton name || namesAxis name) 16)
+unfolding isRegistered namesButton namesAxis
+nameQueryRefusal pads p name = first (unlessFits (isRegistered pads p) 6) (unlessFits (namesButton name || namesAxis name) 16)

@@ -1,4 +1,4 @@
--- Repeat: 000's `Repeat`, with the clock as input and the order fixed: connected pads by number, codes rising. Definitions only.
+-- Repeat: gilrs's `Repeat`, with the clock as input and the order fixed: connected pads by number, codes rising. Definitions only.
 use Prim.Native.Nat.{ℕ, zero, suc, _+_, _-_, _*_, _/_}
 use mathlib.Core.Bool.{Bool, true, false, cond, _&&_}
 use mathlib.Core.List.{List}

@@ -106,27 +106,27 @@ unfoldable pub nameAt : List ℕ → ℕ → ℕ → ℕ → ℕ
 nameAt s start stride i = getD s (start + stride * i) 0
 
 -- the name is among the n from the i-th on
-unfoldable pub standsIn : List ℕ → ℕ → ℕ → ℕ → ℕ → ℕ → Bool
+unfoldable pub occursIn : List ℕ → ℕ → ℕ → ℕ → ℕ → ℕ → Bool
 unfolding nameAt
-standsIn s start stride name zero i = false
-standsIn s start stride name (suc n) i = eqb (nameAt s start stride i) name || standsIn s start stride name n (i + 1)
+occursIn s start stride name zero i = false
+occursIn s start stride name (suc n) i = eqb (nameAt s start stride i) name || occursIn s start stride name n (i + 1)
 
-unfoldable pub standsTwice : List ℕ → ℕ → ℕ → ℕ → ℕ → Bool
-unfolding nameAt standsIn
-standsTwice s start stride zero i = false
-standsTwice s start stride (suc n) i =
-    (not (eqb (nameAt s start stride i) noName) && standsIn s start stride (nameAt s start stride i) n (i + 1))
-    || standsTwice s start stride n (i + 1)
+unfoldable pub occursTwice : List ℕ → ℕ → ℕ → ℕ → ℕ → Bool
+unfolding nameAt occursIn
+occursTwice s start stride zero i = false
+occursTwice s start stride (suc n) i =
+    (not (eqb (nameAt s start stride i) noName) && occursIn s start stride (nameAt s start stride i) n (i + 1))
+    || occursTwice s start stride n (i + 1)
 
 -- ---- "Sheet order: 2, 3, 4, 5"
 
 -- 0 where the sheet is good
 unfoldable pub sheetRefusal : List ℕ → ℕ
-unfolding sheetFits hatsOf countOf elementsFit standsTwice
+unfolding sheetFits hatsOf countOf elementsFit occursTwice
 sheetRefusal s =
     cond (not (sheetFits s)) 3
     (cond (ltb lastHats (hatsOf s) || not (elementsFit s (countOf s) 0)) 4
-    (cond (standsTwice s (sheetOpening + nameOffset) elementSize (countOf s) 0) 5 0))
+    (cond (occursTwice s (sheetOpening + nameOffset) elementSize (countOf s) 0) 5 0))
 
 -- ---- "rename list not one name per element" 3, a name that is none 4, a name twice 5
 
@@ -137,9 +137,9 @@ namesFit s zero i = true
 namesFit s (suc n) i = nameAllowed (getD s i 0) && namesFit s n (i + 1)
 
 unfoldable pub renameListRefusal : List ℕ → ℕ → ℕ
-unfolding namesFit standsTwice
+unfolding namesFit occursTwice
 renameListRefusal s count =
-    cond (not (eqb (length s) count)) 3 (cond (not (namesFit s count 0)) 4 (cond (standsTwice s 0 1 count 0) 5 0))
+    cond (not (eqb (length s) count)) 3 (cond (not (namesFit s count 0)) 4 (cond (occursTwice s 0 1 count 0) 5 0))
 
 -- ---- a sheet's bytes, for examples and theorems
 

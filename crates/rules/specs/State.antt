@@ -1,4 +1,4 @@
--- State: the records of a code after an event, 000's `GamepadState`, and what is read of them. Definitions only.
+-- State: the records of a code after an event, gilrs's `GamepadState`, and what is read of them. Definitions only.
 use Prim.Native.Nat.{ℕ, _+_}
 use mathlib.Core.Bool.{Bool, true, false, cond, _&&_}
 use lib.Dec.{ltb}

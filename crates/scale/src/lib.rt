@@ -14,7 +14,7 @@ const LIMIT: i32 = 8388608;
 const ABSENT: u32 = 0xffff_ffff;
 
 const DEADZONE_LIMIT: u32 = 16777216;
-// 000's `DEFAULT_DEADZONE`, and the threshold of its `Jitter::new`
+// gilrs's `DEFAULT_DEADZONE`, and the threshold of its `Jitter::new`
 const DEFAULT_THRESHOLD: f32 = 0.1;
 
 const JITTER_LIMIT: f32 = 0.01;
@@ -92,7 +92,7 @@ fn turned(reversed: bool, x: f32) -> f32
     x
 }
 
-// 000's `axis_value`
+// gilrs's `axis_value`
 pub fn axis_value(low: f32, range: f32, odd: bool, reversed: bool, raw: i32) -> f32
     requires { ⌜ withinOf raw ≡ true ⌝ }
     ensures { λ r. ⌜ r ≡ axisScaledOf low range odd reversed raw ⌝ }
@@ -102,7 +102,7 @@ pub fn axis_value(low: f32, range: f32, odd: bool, reversed: bool, raw: i32) -> 
     binary32::clamp(turned(reversed, v / whole * 2.0 - 1.0), -1.0, 1.0)
 }
 
-// 000's `btn_value`
+// gilrs's `btn_value`
 pub fn button_value(low: f32, range: f32, raw: i32) -> f32
     requires { ⌜ withinOf raw ≡ true ⌝ }
     ensures { λ r. ⌜ r ≡ buttonScaledOf low range raw ⌝ }
@@ -112,7 +112,7 @@ pub fn button_value(low: f32, range: f32, raw: i32) -> f32
 
 // ---- the deadzone
 
-// 000's `Gamepad::deadzone`
+// gilrs's `Gamepad::deadzone`
 pub fn threshold_of(min: i32, max: i32, deadzone: u32) -> f32
     requires { ⌜ ((withinOf min ≡ true) × (withinOf max ≡ true)) × (deadzoneWithinOf deadzone ≡ true) ⌝ }
     ensures { λ r. ⌜ r ≡ thresholdOf min max deadzone ⌝ }
@@ -123,7 +123,7 @@ pub fn threshold_of(min: i32, max: i32, deadzone: u32) -> f32
     (deadzone as f32) / range_of(min, max) * 2.0
 }
 
-// 000's `apply_deadzone`. A threshold of 0, as triggers have, leaves a stick off its middle as it is: no root is needed.
+// gilrs's `apply_deadzone`. A threshold of 0, as triggers have, leaves a stick off its middle as it is: no root is needed.
 pub fn apply_deadzone(x: f32, y: f32, threshold: f32) -> Pair
     ensures { λ r. ⌜ r ≡ deadzoneOf x y threshold ⌝ }
 {
@@ -145,7 +145,7 @@ pub fn apply_deadzone(x: f32, y: f32, threshold: f32) -> Pair
 
 // ---- jitter
 
-// 000's `abs`, as a comparison
+// gilrs's `abs`, as a comparison
 fn abs(x: f32) -> f32
     ensures { λ r. ⌜ r ≡ absOf x ⌝ }
 {
@@ -155,7 +155,7 @@ fn abs(x: f32) -> f32
     x
 }
 
-// the test of 000's `Jitter`
+// the test of gilrs's `Jitter`
 pub fn jitters(value: f32, stored: f32) -> bool
     ensures { λ r. ⌜ r ≡ jitterOf value stored ⌝ }
 {

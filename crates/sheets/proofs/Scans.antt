@@ -8,7 +8,7 @@ use native.Mathlib.Omega.{arith}
 use lib.ListN.{getD}
 use lib.Dec.{eqb}
 use Rattle.rules.specs.Names.{nameAllowed}
-use Rattle.rules.specs.Sheets.{elementOf, elementFits, rises, elementsFit, nameAt, standsIn, standsTwice, namesFit}
+use Rattle.rules.specs.Sheets.{elementOf, elementFits, rises, elementsFit, nameAt, occursIn, occursTwice, namesFit}
 
 module _ (P f : ℕ → ℕ → Bool) (none : (i : ℕ) → P 0 i ≡ true) (more : (n i : ℕ) → P (suc n) i ≡ f n i && P n (i + 1)) (count i : ℕ) where
   left : i < count → P (count - i) i ≡ f (count - (i + 1)) i && P (count - (i + 1)) (i + 1)
@@ -69,21 +69,21 @@ module _ (s : List ℕ) (start stride : ℕ) where
   abbrev pub sameTest : ℕ → ℕ → ℕ → Bool
   sameTest name n i = eqb (getD s (start + stride * i) 0) name
 
-  pub in-none : (name i : ℕ) → standsIn s start stride name 0 i ≡ false
-  unfolding standsIn
+  pub in-none : (name i : ℕ) → occursIn s start stride name 0 i ≡ false
+  unfolding occursIn
   in-none name i = refl
 
-  pub in-more : (name n i : ℕ) → standsIn s start stride name (suc n) i ≡ sameTest name n i || standsIn s start stride name n (i + 1)
-  unfolding standsIn nameAt
+  pub in-more : (name n i : ℕ) → occursIn s start stride name (suc n) i ≡ sameTest name n i || occursIn s start stride name n (i + 1)
+  unfolding occursIn nameAt
   in-more name n i = refl
 
   abbrev pub againTest : ℕ → ℕ → Bool
-  againTest n i = not (eqb (nameAt s start stride i) 255) && standsIn s start stride (nameAt s start stride i) n (i + 1)
+  againTest n i = not (eqb (nameAt s start stride i) 255) && occursIn s start stride (nameAt s start stride i) n (i + 1)
 
-  pub twice-none : (i : ℕ) → standsTwice s start stride 0 i ≡ false
-  unfolding standsTwice
+  pub twice-none : (i : ℕ) → occursTwice s start stride 0 i ≡ false
+  unfolding occursTwice
   twice-none i = refl
 
-  pub twice-more : (n i : ℕ) → standsTwice s start stride (suc n) i ≡ againTest n i || standsTwice s start stride n (i + 1)
-  unfolding standsTwice
+  pub twice-more : (n i : ℕ) → occursTwice s start stride (suc n) i ≡ againTest n i || occursTwice s start stride n (i + 1)
+  unfolding occursTwice
   twice-more n i = refl

@@ -15,7 +15,7 @@ use Rattle.numbers.specs.Constants.{withinOf, wholeLimit, absent}
 use Rattle.rules.specs.declared.SheetElement.{SheetElement}
 use Rattle.rules.specs.Names.{nameAllowed, elementLimit, lastDeadzone}
 use Rattle.rules.specs.Forms.{opens}
-use Rattle.rules.specs.Sheets.{sheetOpening, elementSize, nameOffset, elementButton, elementAxis, lastHats, elementOf, hatsOf, countOf, sheetFits, isZero, buttonFits, axisFits, elementFits, rises, elementsFit, standsTwice, sheetRefusal, namesFit, renameListRefusal}
+use Rattle.rules.specs.Sheets.{sheetOpening, elementSize, nameOffset, elementButton, elementAxis, lastHats, elementOf, hatsOf, countOf, sheetFits, isZero, buttonFits, axisFits, elementFits, rises, elementsFit, occursTwice, sheetRefusal, namesFit, renameListRefusal}
 
 -- ---- tests taken apart
 
@@ -68,12 +68,12 @@ pub record Good (s : List ℕ) : Type 0 where
   pub few : countOf s ≤ elementLimit
   pub hats : hatsOf s ≤ lastHats
   pub keep : elementsFit s (countOf s) 0 ≡ true
-  pub once : standsTwice s (sheetOpening + nameOffset) elementSize (countOf s) 0 ≡ false
+  pub once : occursTwice s (sheetOpening + nameOffset) elementSize (countOf s) 0 ≡ false
 
 pub good : (s : List ℕ) → sheetRefusal s ≡ 0 → Good s
 unfolding sheetRefusal
 good s h =
-    let p = passes (sheetFits s) (ltb lastHats (hatsOf s) || not (elementsFit s (countOf s) 0)) (standsTwice s (sheetOpening + nameOffset) elementSize (countOf s) 0) h in
+    let p = passes (sheetFits s) (ltb lastHats (hatsOf s) || not (elementsFit s (countOf s) 0)) (occursTwice s (sheetOpening + nameOffset) elementSize (countOf s) 0) h in
     let q = neither (ltb lastHats (hatsOf s)) (elementsFit s (countOf s) 0) (p .1) in
     record {
       fits = p .0;
@@ -190,10 +190,10 @@ module _ (e : SheetElement) (fits : elementFits e ≡ true) where
 pub record GoodList (s : List ℕ) (count : ℕ) : Type 0 where
   pub size : length s ≡ count
   pub allowed : namesFit s count 0 ≡ true
-  pub once : standsTwice s 0 1 count 0 ≡ false
+  pub once : occursTwice s 0 1 count 0 ≡ false
 
 pub good-list : (s : List ℕ) (count : ℕ) → renameListRefusal s count ≡ 0 → GoodList s count
 unfolding renameListRefusal
 good-list s count h =
-    let p = passes (eqb (length s) count) (not (namesFit s count 0)) (standsTwice s 0 1 count 0) h in
+    let p = passes (eqb (length s) count) (not (namesFit s count 0)) (occursTwice s 0 1 count 0) h in
     record { size = eqb-true _ _ (p .0); allowed = not-false _ (p .1); once = p .2 }

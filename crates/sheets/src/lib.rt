@@ -12,8 +12,8 @@ ghost use Prim.Native.Nat.{_+_, _-_, _*_, _≤_, _<_};
 ghost use lib.ListN.{length};
 ghost use lib.Signed.{ltZ};
 ghost use Rattle.rules.specs.Names.{nameAllowed};
-ghost use Rattle.sheets.specs.Spread.{Spread, standsAgain};
-ghost use Rattle.rules.specs.Sheets.{elementFields, elementOf, sheetFits, isZero, buttonFits, axisFits, elementFits, rises, elementsFit, standsIn, standsTwice, sheetRefusal, namesFit, renameListRefusal};
+ghost use Rattle.sheets.specs.Spread.{Spread, occursAgain};
+ghost use Rattle.rules.specs.Sheets.{elementFields, elementOf, sheetFits, isZero, buttonFits, axisFits, elementFits, rises, elementsFit, occursIn, occursTwice, sheetRefusal, namesFit, renameListRefusal};
 
 // ---- sizes, kinds and limits
 
@@ -164,9 +164,9 @@ fn elements_fit(s: &[u8], count: usize) -> bool
 
 // Names stand in bytes at start, start + stride, ..: every 18th byte of a sheet, every byte of a rename list. The name is among those from a
 // number on.
-fn stands_in(s: &[u8], start: usize, stride: usize, name: u8, first: usize, count: usize) -> bool
+fn occurs_in(s: &[u8], start: usize, stride: usize, name: u8, first: usize, count: usize) -> bool
     requires { ⌜ Spread (now s) start stride count ⌝ }
-    ensures { λ r. ⌜ r ≡ standsIn (now (s .entry)) start stride name (count - first) first ⌝ }
+    ensures { λ r. ⌜ r ≡ occursIn (now (s .entry)) start stride name (count - first) first ⌝ }
 {
     let mut i = first;
     while i < count {
@@ -179,24 +179,24 @@ fn stands_in(s: &[u8], start: usize, stride: usize, name: u8, first: usize, coun
 }
 
 // The i-th name stands again behind it; "none but 255 twice".
-fn stands_again(s: &[u8], start: usize, stride: usize, i: usize, count: usize) -> bool
+fn occurs_again(s: &[u8], start: usize, stride: usize, i: usize, count: usize) -> bool
     requires { ⌜ (Spread (now s) start stride count) × (i < count) ⌝ }
-    ensures { λ r. ⌜ r ≡ standsAgain (now (s .entry)) start stride count i ⌝ }
+    ensures { λ r. ⌜ r ≡ occursAgain (now (s .entry)) start stride count i ⌝ }
 {
     let name = s[start + stride * i];
     if name == NO_NAME {
         return false;
     }
-    stands_in(s, start, stride, name, i + 1, count)
+    occurs_in(s, start, stride, name, i + 1, count)
 }
 
-fn stands_twice(s: &[u8], start: usize, stride: usize, count: usize) -> bool
+fn occurs_twice(s: &[u8], start: usize, stride: usize, count: usize) -> bool
     requires { ⌜ Spread (now s) start stride count ⌝ }
-    ensures { λ r. ⌜ r ≡ standsTwice (now (s .entry)) start stride count 0 ⌝ }
+    ensures { λ r. ⌜ r ≡ occursTwice (now (s .entry)) start stride count 0 ⌝ }
 {
     let mut i: usize = 0;
     while i < count {
-        if stands_again(s, start, stride, i, count) {
+        if occurs_again(s, start, stride, i, count) {
             return true;
         }
         i += 1;
@@ -235,7 +235,7 @@ pub fn sheet_refusal(s: &[u8]) -> u8
     let hats = unless_fits(!(LAST_HATS < s[3]), 4);
     let rules = unless_fits(elements_fit(s, count), 4);
     let names = unless_fits(
-        !stands_twice(s, SHEET_OPENING + NAME_OFFSET, ELEMENT_SIZE, count),
+        !occurs_twice(s, SHEET_OPENING + NAME_OFFSET, ELEMENT_SIZE, count),
         5,
     );
     first(hats, first(rules, names))
@@ -264,6 +264,6 @@ pub fn rename_list_refusal(s: &[u8], count: u8) -> u8
         return 3;
     }
     let allowed = unless_fits(names_fit(s), 4);
-    let once = unless_fits(!stands_twice(s, 0, 1, count as usize), 5);
+    let once = unless_fits(!occurs_twice(s, 0, 1, count as usize), 5);
     first(allowed, once)
 }

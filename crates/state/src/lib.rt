@@ -1,4 +1,4 @@
-// The records of a code after an event, and what is read of them: 000's `GamepadState`.
+// The records of a code after an event, and what is read of them: gilrs's `GamepadState`.
 ghost use mathlib.Core.Path.{_≡_};
 ghost use mathlib.Core.Bool.{cond};
 ghost use Rattle.rules.specs.State.{buttonAfter, axisAfter, writesButton, writesAxis, readPressed, readValue, nextCounter};
@@ -22,7 +22,7 @@ fn kept_mark(known: bool, kept: bool, fresh: bool) -> bool
     if known { kept } else { fresh }
 }
 
-// ---- the button record: 000's `set_btn_pressed`, `set_btn_repeating`, `set_btn_value`
+// ---- the button record: gilrs's `set_btn_pressed`, `set_btn_repeating`, `set_btn_value`
 
 // The button record after an event; the same one where the event writes none.
 pub fn button_after(e: Event, known: bool, b: ButtonData, counter: u64) -> ButtonData
@@ -82,7 +82,7 @@ pub fn writes_button(e: Event) -> bool
     }
 }
 
-// ---- the axis record: 000's `update_axis`
+// ---- the axis record: gilrs's `update_axis`
 
 // The axis record after an event; the same one where the event writes none.
 pub fn axis_after(e: Event, a: AxisData, counter: u64) -> AxisData
@@ -124,21 +124,21 @@ pub fn writes_axis(e: Event) -> bool
 
 // ---- reads
 
-// pressed by code reads the button record alone: 000's `is_pressed`
+// pressed by code reads the button record alone: gilrs's `is_pressed`
 pub fn read_pressed(known: bool, b: ButtonData) -> bool
     ensures { λ r. ⌜ r ≡ readPressed known b ⌝ }
 {
     kept_mark(known, b.pressed, false)
 }
 
-// "Reading a code looks at axes first": 000's `value`
+// "Reading a code looks at axes first": gilrs's `value`
 pub fn read_value(axisknown: bool, a: AxisData, buttonknown: bool, b: ButtonData) -> f32
     ensures { λ r. ⌜ r ≡ readValue axisknown a buttonknown b ⌝ }
 {
     kept_value(axisknown, a.value, kept_value(buttonknown, b.value, 0.0))
 }
 
-// ---- "The counter goes from 2^62-1 to 0": 000's `inc`
+// ---- "The counter goes from 2^62-1 to 0": gilrs's `inc`
 
 const LAST_COUNTER: u64 = 0x3fff_ffff_ffff_ffff;
 

@@ -11,7 +11,7 @@ use Rattle.numbers.specs.Constants.{withinOf}
 use Rattle.rules.specs.declared.NextRecord.{NextRecord}
 use Rattle.rules.specs.declared.RawRecord.{RawRecord}
 use Rattle.rules.specs.Forms.{recordSize, recordFits, recordFields, readRecord, pickRecord}
-use Rattle.rules.specs.Refusals.{recordRefusal, fieldsRefusal, elementRefusal, standsOf, timeFits, first, unlessFits}
+use Rattle.rules.specs.Refusals.{recordRefusal, fieldsRefusal, elementRefusal, isRegistered, timeFits, first, unlessFits}
 use Rattle.rules.specs.Places.{placeOf}
 use Rattle.rules.specs.Step.{nextRecordOf, nextRecordBy, recordKind, stepRefusal}
 use Rattle.rules.specs.Pump.{placeAfter}
@@ -46,7 +46,7 @@ all-none a b c d e h =
 taken : (l : NextRecord) (pads kind : ℕ) → recordRefusal l pads kind ≤ 0 → Taken l
 unfolding recordRefusal fieldsRefusal
 taken l pads kind h =
-    let n = all-none (unlessFits (l .fits) 8) (unlessFits (standsOf pads (l .raw .pad)) 6) (elementRefusal (l .raw .kind) kind) (unlessFits (withinOf (l .raw .value)) 11) (unlessFits (timeFits (l .raw .time)) 12) h in
+    let n = all-none (unlessFits (l .fits) 8) (unlessFits (isRegistered pads (l .raw .pad)) 6) (elementRefusal (l .raw .kind) kind) (unlessFits (withinOf (l .raw .value)) 11) (unlessFits (timeFits (l .raw .time)) 12) h in
     record { fits = fits-unless (l .fits) 8 (omega arith) (n .0); within = fits-unless (withinOf (l .raw .value)) 11 (omega arith) (n .1) }
 
 -- the step's refusal, as the code has it

@@ -4,8 +4,8 @@ use borrow.Author.Needs.{needs}
 use Rattle.desk.proofs.rename_refusal.Statement.{statement}
 use Rattle.desk.proofs.rename_refusal.Tie as tie
 
-stands-requires : tie.Need-stands-requires
-stands-requires c κs = search needs
+is-registered-requires : tie.Need-is-registered-requires
+is-registered-requires c κs = search needs
 
 unless-fits-requires : tie.Need-unless-fits-requires
 unless-fits-requires c κs = search needs
@@ -30,13 +30,13 @@ first-requires-2 c κs = search needs
 
 returns : tie.Need-returns
 unfolding renameRefusal
-returns c = rw (c .first2 .ensures, c .before .before .before .before .before .before .before .before .before .before .unless-fits .ensures, c .before .before .before .before .before .before .before .before .before .before .before .stands .ensures, c .before .first .ensures, c .before .before .before .before .before .before .unless-fits2 .ensures, c .before .before .before .before .before .before .before .pad-bool .ensures, c .before .before .rename-list-refusal .ensures, c .before .before .before .pad-number .ensures)
+returns c = rw (c .first2 .ensures, c .before .before .before .before .before .before .before .before .before .before .unless-fits .ensures, c .before .before .before .before .before .before .before .before .before .before .before .is-registered .ensures, c .before .first .ensures, c .before .before .before .before .before .before .unless-fits2 .ensures, c .before .before .before .before .before .before .before .pad-bool .ensures, c .before .before .rename-list-refusal .ensures, c .before .before .before .pad-number .ensures)
 
 pub rename-refusal-spec : {M : Type 1} → statement M
 rename-refusal-spec =
     tie.close
     (tie.spec
-    stands-requires
+    is-registered-requires
     unless-fits-requires
     pad-bool-requires
     unless-fits-requires-2

@@ -4,8 +4,8 @@ use borrow.Author.Needs.{needs}
 use Rattle.desk_lent.proofs.rename_refusal.Statement.{statement}
 use Rattle.desk_lent.proofs.rename_refusal.Tie as tie
 
-stands-requires : tie.Need-stands-requires
-stands-requires c κs = search needs
+is-registered-requires : tie.Need-is-registered-requires
+is-registered-requires c κs = search needs
 
 unless-fits-requires : tie.Need-unless-fits-requires
 unless-fits-requires c κs = search needs
@@ -33,7 +33,7 @@ unfolding renameRefusal
 returns c s t =
     let listed = c .before .before in
     let connected = listed .before .before .before .before in
-    let stands = connected .before .before .before .before in
+    let is-registered = connected .before .before .before .before in
     rw (
       c .first2 .ensures,
       c .before .first .ensures,
@@ -41,15 +41,15 @@ returns c s t =
       listed .before .pad-number .ensures,
       connected .unless-fits2 .ensures,
       connected .before .pad-bool .ensures,
-      stands .unless-fits .ensures,
-      stands .before .stands .ensures,
+      is-registered .unless-fits .ensures,
+      is-registered .before .is-registered .ensures,
     )
 
 pub rename-refusal-spec : {M : Type 1} → statement M
 rename-refusal-spec =
     tie.close
     (tie.spec
-    stands-requires
+    is-registered-requires
     unless-fits-requires
     pad-bool-requires
     unless-fits-requires-2

@@ -7,8 +7,8 @@ use borrow.Author.Needs.{needs}
 use Rattle.refusals.proofs.fields_refusal.Statement.{statement}
 use Rattle.refusals.proofs.fields_refusal.Tie as tie
 
-stands-requires : tie.Need-stands-requires
-stands-requires c κs = search needs
+is-registered-requires : tie.Need-is-registered-requires
+is-registered-requires c κs = search needs
 
 unless-fits-requires : tie.Need-unless-fits-requires
 unless-fits-requires c κs = search needs
@@ -39,13 +39,13 @@ first-requires-3 c κs = search needs
 
 returns : tie.Need-returns
 unfolding fieldsRefusal
-returns c = rw (c .first3 .ensures, c .before .before .before .before .before .before .before .before .before .unless-fits .ensures, c .before .before .before .before .before .before .before .before .before .before .stands .ensures, c .before .first2 .ensures, c .before .before .before .before .before .before .before .before .element-refusal .ensures, c .before .before .first .ensures, c .before .before .before .before .before .unless-fits2 .ensures, c .before .before .before .before .before .before .within .ensures, c .before .before .before .unless-fits3 .ensures, c .before .before .before .before .time-fits .ensures, toZ-ofZ {w = w32} {z = c .before .before .before .before .before .before .before .before .before .before .before .args .raw .value} (record { sfits = omega arith }))
+returns c = rw (c .first3 .ensures, c .before .before .before .before .before .before .before .before .before .unless-fits .ensures, c .before .before .before .before .before .before .before .before .before .before .is-registered .ensures, c .before .first2 .ensures, c .before .before .before .before .before .before .before .before .element-refusal .ensures, c .before .before .first .ensures, c .before .before .before .before .before .unless-fits2 .ensures, c .before .before .before .before .before .before .within .ensures, c .before .before .before .unless-fits3 .ensures, c .before .before .before .before .time-fits .ensures, toZ-ofZ {w = w32} {z = c .before .before .before .before .before .before .before .before .before .before .before .args .raw .value} (record { sfits = omega arith }))
 
 pub fields-refusal-spec : {M : Type 1} → statement M
 fields-refusal-spec =
     tie.close
     (tie.spec
-    stands-requires
+    is-registered-requires
     unless-fits-requires
     element-refusal-requires
     within-requires

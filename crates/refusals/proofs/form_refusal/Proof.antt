@@ -4,8 +4,8 @@ use borrow.Author.Needs.{needs}
 use Rattle.refusals.proofs.form_refusal.Statement.{statement}
 use Rattle.refusals.proofs.form_refusal.Tie as tie
 
-stands-requires : tie.Need-stands-requires
-stands-requires c κs = search needs
+is-registered-requires : tie.Need-is-registered-requires
+is-registered-requires c κs = search needs
 
 unless-fits-requires : tie.Need-unless-fits-requires
 unless-fits-requires c κs = search needs
@@ -42,7 +42,7 @@ pub form-refusal-spec : {M : Type 1} → statement M
 form-refusal-spec =
     tie.close
     (tie.spec
-    stands-requires
+    is-registered-requires
     unless-fits-requires
     code-refusal-requires
     value-fits-requires

@@ -3,8 +3,8 @@ use borrow.Author.Needs.{needs}
 use Rattle.refusals.proofs.named_refusal.Statement.{statement}
 use Rattle.refusals.proofs.named_refusal.Tie as tie
 
-stands-requires : tie.Need-stands-requires
-stands-requires c κs = search needs
+is-registered-requires : tie.Need-is-registered-requires
+is-registered-requires c κs = search needs
 
 unless-fits-requires : tie.Need-unless-fits-requires
 unless-fits-requires c κs = search needs
@@ -21,4 +21,4 @@ returns c = cc
 pub named-refusal-spec : {M : Type 1} → statement M
 named-refusal-spec =
     tie.close
-    (tie.spec stands-requires unless-fits-requires unless-fits-requires-2 first-requires returns)
+    (tie.spec is-registered-requires unless-fits-requires unless-fits-requires-2 first-requires returns)

@@ -3,8 +3,8 @@ use borrow.Author.Needs.{needs}
 use Rattle.refusals.proofs.pad_refusal.Statement.{statement}
 use Rattle.refusals.proofs.pad_refusal.Tie as tie
 
-stands-requires : tie.Need-stands-requires
-stands-requires c κs = search needs
+is-registered-requires : tie.Need-is-registered-requires
+is-registered-requires c κs = search needs
 
 unless-fits-requires : tie.Need-unless-fits-requires
 unless-fits-requires c κs = search needs
@@ -13,4 +13,4 @@ returns : tie.Need-returns
 returns c = cc
 
 pub pad-refusal-spec : {M : Type 1} → statement M
-pad-refusal-spec = tie.close (tie.spec stands-requires unless-fits-requires returns)
+pad-refusal-spec = tie.close (tie.spec is-registered-requires unless-fits-requires returns)

@@ -7,7 +7,7 @@ use lib.IntN.{ℤ, pos, negsuc}
 use lib.Ieee as Ieee
 use lib.Ieee.{Float, nan, binary32, ofBits}
 use Rattle.numbers.specs.Constants.{zero32, one32, two32}
-use Rattle.rules.specs.Refusals.{thresholdsRefusal, standsOf, valueFits, timeFits, elementRefusal, recordRefusal, formRefusal, insertRefusal, pumpRefusal, repeatRefusal, buttonQueryRefusal, axisQueryRefusal, nameQueryRefusal}
+use Rattle.rules.specs.Refusals.{thresholdsRefusal, isRegistered, valueFits, timeFits, elementRefusal, recordRefusal, formRefusal, insertRefusal, pumpRefusal, repeatRefusal, buttonQueryRefusal, axisQueryRefusal, nameQueryRefusal}
 use Rattle.rules.specs.Examples.Table.{_is_, Right, half32, threeQuarters32}
 
 -- ---- 1: "pressed <= released, either outside 0..1, or NaN"
@@ -35,8 +35,8 @@ thresholds = refl
 
 -- ---- 6: "pad not registered"
 
-pads : Right (standsOf 0 0 is false ∷ standsOf 2 1 is true ∷ standsOf 2 2 is false ∷ standsOf 4 3 is true ∷ standsOf 9 4 is false ∷ [])
-unfolding standsOf
+pads : Right (isRegistered 0 0 is false ∷ isRegistered 2 1 is true ∷ isRegistered 2 2 is false ∷ isRegistered 4 3 is true ∷ isRegistered 9 4 is false ∷ [])
+unfolding isRegistered
 pads = refl
 
 -- ---- 11 and 12

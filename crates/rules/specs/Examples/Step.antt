@@ -208,7 +208,7 @@ last-flag : Right (getD (right-stick .flags) 5 false is true ∷ getD (after rig
 unfolding right-stick after bare registerOf sheetBytes raw
 last-flag = refl
 
--- ---- "and the names and hats of the registered sheet (000 loads the mapping afresh, so a rename is lost)"
+-- ---- "and the names and hats of the registered sheet (gilrs loads the mapping afresh, so a rename is lost)"
 
 -- hats are 15 and South's code is named DPadRight: the pad converts, until a rename makes its hats 0
 hatted : Hub

@@ -2,7 +2,7 @@
 use borrow.Author.Needs.{needs}
 use mathlib.Core.Bool.{false}
 use borrow.Author.Tests.{eq-eqb, ne-eqb}
-use Rattle.rules.specs.Sheets.{namesFit, standsTwice, renameListRefusal}
+use Rattle.rules.specs.Sheets.{namesFit, occursTwice, renameListRefusal}
 use Rattle.sheets.proofs.Order.{in-order}
 use Rattle.sheets.proofs.rename_list_refusal.Statement.{statement}
 use Rattle.sheets.proofs.rename_list_refusal.Tie as tie
@@ -17,8 +17,8 @@ names-fit-requires c κs = search needs
 unless-fits-requires : tie.Need-unless-fits-requires
 unless-fits-requires c κs = search needs
 
-stands-twice-requires : tie.Need-stands-twice-requires
-stands-twice-requires c κs = search needs
+occurs-twice-requires : tie.Need-occurs-twice-requires
+occurs-twice-requires c κs = search needs
 
 unless-fits-requires-2 : tie.Need-unless-fits-requires-2
 unless-fits-requires-2 c κs = search needs
@@ -38,9 +38,9 @@ returns-2 c =
       c .before .before .before .before .names-fit .ensures,
       c .before .before .before .before .before .if1 .left,
       c .before .unless-fits2 .ensures,
-      c .before .before .stands-twice .ensures,
+      c .before .before .occurs-twice .ensures,
     )
-    (in-order false (namesFit s count 0) (standsTwice s 0 1 count 0))
+    (in-order false (namesFit s count 0) (occursTwice s 0 1 count 0))
 
 pub rename-list-refusal-spec : {M : Type 1} → statement M
 rename-list-refusal-spec =
@@ -49,7 +49,7 @@ rename-list-refusal-spec =
     returns
     names-fit-requires
     unless-fits-requires
-    stands-twice-requires
+    occurs-twice-requires
     unless-fits-requires-2
     first-requires
     returns-2)

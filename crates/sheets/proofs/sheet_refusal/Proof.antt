@@ -7,7 +7,7 @@ use native.Mathlib.Omega.{arith}
 use lib.ListN.{length, getD}
 use lib.Dec.{ltb}
 use borrow.Author.Tests.{not-true, not-false}
-use Rattle.rules.specs.Sheets.{sheetFits, hatsOf, countOf, elementsFit, standsTwice, sheetRefusal}
+use Rattle.rules.specs.Sheets.{sheetFits, hatsOf, countOf, elementsFit, occursTwice, sheetRefusal}
 use Rattle.sheets.specs.Laws.{sheet-size}
 use Rattle.sheets.proofs.Order.{in-order}
 use Rattle.sheets.proofs.sheet_refusal.Statement.{statement}
@@ -45,11 +45,11 @@ elements-fit-requires c κs = let z = sized (c .before .before .before) in omega
 unless-fits-requires-2 : tie.Need-unless-fits-requires-2
 unless-fits-requires-2 c κs = search needs
 
-add-stands-twice : tie.Need-add-stands-twice
-add-stands-twice c = search needs
+add-occurs-twice : tie.Need-add-occurs-twice
+add-occurs-twice c = search needs
 
-stands-twice-requires : tie.Need-stands-twice-requires
-stands-twice-requires c κs =
+occurs-twice-requires : tie.Need-occurs-twice-requires
+occurs-twice-requires c κs =
     let s = c .before .before .before .before .before .before .before .before .args .s .now in
     let z = sized (c .before .before .before .before .before) in
     record { there = λ (i : ℕ) (h : i < getD s 4 0). omega arith }
@@ -75,9 +75,9 @@ returns-2 c =
       c .before .before .before .before .unless-fits2 .ensures,
       c .before .before .before .before .before .elements-fit .ensures,
       c .before .before .unless-fits3 .ensures,
-      c .before .before .before .stands-twice .ensures,
+      c .before .before .before .occurs-twice .ensures,
     )
-    (in-order (ltb 15 (getD s 3 0)) (elementsFit s (getD s 4 0) 0) (standsTwice s 10 18 (getD s 4 0) 0))
+    (in-order (ltb 15 (getD s 3 0)) (elementsFit s (getD s 4 0) 0) (occursTwice s 10 18 (getD s 4 0) 0))
 
 pub sheet-refusal-spec : {M : Type 1} → statement M
 sheet-refusal-spec =
@@ -91,8 +91,8 @@ sheet-refusal-spec =
     unless-fits-requires
     elements-fit-requires
     unless-fits-requires-2
-    add-stands-twice
-    stands-twice-requires
+    add-occurs-twice
+    occurs-twice-requires
     unless-fits-requires-3
     first-requires
     first-requires-2

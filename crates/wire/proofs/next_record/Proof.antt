@@ -1,9 +1,9 @@
--- `wire::next-record` meets its contract, by what waits and by what `read_record` finds.
+-- `wire::next_record` meets its contract, by what waits and by what `read_record` finds.
 use borrow.Author.Needs.{needs}
 use borrow.Author.Tests.{lt-ltb, le-ltb}
 use Rattle.rules.specs.Step.{nextRecordOf}
-use Rattle.wire.proofs.next-record.Statement.{statement}
-use Rattle.wire.proofs.next-record.Tie as tie
+use Rattle.wire.proofs.next_record.Statement.{statement}
+use Rattle.wire.proofs.next_record.Tie as tie
 
 returns : tie.Need-returns
 unfolding nextRecordOf

@@ -1,11 +1,11 @@
--- `sheets::stands_again` meets its contract: no name never stands again, and any other is looked for.
+-- `sheets::occurs_again` meets its contract: no name never stands again, and any other is looked for.
 use borrow.Author.Needs.{needs}
 use native.Mathlib.Omega.{arith}
 use borrow.Author.Tests.{ne-eqb}
 use Rattle.rules.specs.Sheets.{nameAt}
-use Rattle.sheets.specs.Spread.{standsAgain}
-use Rattle.sheets.proofs.stands_again.Statement.{statement}
-use Rattle.sheets.proofs.stands_again.Tie as tie
+use Rattle.sheets.specs.Spread.{occursAgain}
+use Rattle.sheets.proofs.occurs_again.Statement.{statement}
+use Rattle.sheets.proofs.occurs_again.Tie as tie
 
 mul-name : tie.Need-mul-name
 mul-name c =
@@ -26,27 +26,27 @@ shared-slice-read-name c =
     omega arith
 
 returns : tie.Need-returns
-unfolding standsAgain nameAt
+unfolding occursAgain nameAt
 returns c = rw (c .if1 .taken)
 
-add-stands-in : tie.Need-add-stands-in
-add-stands-in c = search needs
+add-occurs-in : tie.Need-add-occurs-in
+add-occurs-in c = search needs
 
-stands-in-requires : tie.Need-stands-in-requires
-stands-in-requires c κs = search needs
+occurs-in-requires : tie.Need-occurs-in-requires
+occurs-in-requires c κs = search needs
 
 returns-2 : tie.Need-returns-2
-unfolding standsAgain nameAt
-returns-2 c = rw (ne-eqb _ _ (c .before .if1 .left)) (c .stands-in .ensures)
+unfolding occursAgain nameAt
+returns-2 c = rw (ne-eqb _ _ (c .before .if1 .left)) (c .occurs-in .ensures)
 
-pub stands-again-spec : {M : Type 1} → statement M
-stands-again-spec =
+pub occurs-again-spec : {M : Type 1} → statement M
+occurs-again-spec =
     tie.close
     (tie.spec
     mul-name
     add-name
     shared-slice-read-name
     returns
-    add-stands-in
-    stands-in-requires
+    add-occurs-in
+    occurs-in-requires
     returns-2)

@@ -1,16 +1,16 @@
--- `sheets::stands_in` meets its contract. The invariant: what is left of the scan is the whole of it.
+-- `sheets::occurs_in` meets its contract. The invariant: what is left of the scan is the whole of it.
 use mathlib.Core.Path.{_≡_, _∙_}
 use Prim.Native.Nat.{_≤_, _<_, _-_}
 use native.Mathlib.Omega.{arith}
 use mathlib.Core.Path.{refl}
 use borrow.Author.Tests.{eq-eqb, ne-eqb}
-use Rattle.rules.specs.Sheets.{standsIn}
+use Rattle.rules.specs.Sheets.{occursIn}
 use Rattle.sheets.proofs.Scans.{sameTest, in-none, in-more, any-more, any-stop, any-end}
-use Rattle.sheets.proofs.stands_in.Statement.{statement}
-use Rattle.sheets.proofs.stands_in.Tie as tie
+use Rattle.sheets.proofs.occurs_in.Statement.{statement}
+use Rattle.sheets.proofs.occurs_in.Tie as tie
 
 abbrev Inv-loop : tie.InvT-loop
-Inv-loop s start stride name first count i₀ i = standsIn s start stride name (count - i) i ≡ standsIn s start stride name (count - first) first
+Inv-loop s start stride name first count i₀ i = occursIn s start stride name (count - i) i ≡ occursIn s start stride name (count - first) first
 
 abbrev μ-loop : tie.MeasureT-loop
 μ-loop s start stride name first count i₀ i = count - i
@@ -48,7 +48,7 @@ returns c =
     let s = a .s .now in
     let l = c .before .before .before .loop in
     let h : l .i < a .count = omega arith in
-    any-stop (standsIn s (a .start) (a .stride) (a .name)) (sameTest s (a .start) (a .stride) (a .name))
+    any-stop (occursIn s (a .start) (a .stride) (a .name)) (sameTest s (a .start) (a .stride) (a .name))
     (in-none s (a .start) (a .stride) (a .name)) (in-more s (a .start) (a .stride) (a .name)) (a .count) (l .i) h (eq-eqb _ _ (c .if1 .taken)) ∙ l .inv
 
 add-i : tie.Need-add-i Inv-loop μ-loop
@@ -63,7 +63,7 @@ loop-again c =
     let s = a .s .now in
     let l = c .before .before .before .loop in
     let h : l .i < a .count = omega arith in
-    any-more (standsIn s (a .start) (a .stride) (a .name)) (sameTest s (a .start) (a .stride) (a .name))
+    any-more (occursIn s (a .start) (a .stride) (a .name)) (sameTest s (a .start) (a .stride) (a .name))
     (in-none s (a .start) (a .stride) (a .name)) (in-more s (a .start) (a .stride) (a .name)) (a .count) (l .i) h (ne-eqb _ _ (c .if1 .left)) ∙ l .inv
 
 returns-2 : tie.Need-returns-2 Inv-loop μ-loop
@@ -72,11 +72,11 @@ returns-2 c =
     let s = a .s .now in
     let l = c .before .loop in
     let h : a .count ≤ l .i = omega arith in
-    any-end (standsIn s (a .start) (a .stride) (a .name)) (sameTest s (a .start) (a .stride) (a .name))
+    any-end (occursIn s (a .start) (a .stride) (a .name)) (sameTest s (a .start) (a .stride) (a .name))
     (in-none s (a .start) (a .stride) (a .name)) (in-more s (a .start) (a .stride) (a .name)) (a .count) (l .i) h ∙ l .inv
 
-pub stands-in-spec : {M : Type 1} → statement M
-stands-in-spec =
+pub occurs-in-spec : {M : Type 1} → statement M
+occurs-in-spec =
     tie.close
     (tie.spec
     Inv-loop
