@@ -1,7 +1,7 @@
 """Paces the hub and gilrs over the same courses, compares what they did, and prints what a record and a step cost.
 
 measure.py FOLDER: the folder holds crate_pace and the courses `stream`, `taking-N` and `pushing-N`, which it made. The
-hub is run by desk-files/run. Times are processor time at n and 2n rounds, taken from each other, so that start and end
+hub is run by scripts/run. Times are processor time at n and 2n rounds, taken from each other, so that start and end
 fall out; gilrs times its own part, since its records are posted outside of it. Where valgrind is there, instructions
 are counted in the same way, and the copies of memory too."""
 import os
