@@ -2,17 +2,14 @@
 // `hats`.
 ghost use mathlib.Core.Path.{_≡_};
 ghost use mathlib.Core.Bool.{cond};
-ghost use Prim.Native.Nat.{_≤_};
 ghost use Rattle.numbers.specs.Constants.{zero32};
 ghost use Rattle.rules.specs.Filters as law;
-ghost use Rattle.filters.specs.Post.{Counted, Passed};
+ghost use Rattle.filters.specs.Post.{Counted};
 ghost use Rattle.filters.specs.Behind.{SentIs, behindOf};
 use numbers::Pair;
 use rules::Event;
 use rules::EventType;
-use rules::Filtered;
 use rules::Flags;
-use rules::Gives;
 use rules::View;
 use rules::Zoned;
 
@@ -156,47 +153,8 @@ fn one_if(b: bool) -> u8
     if b { 1 } else { 0 }
 }
 
-// what dpad queued, then the clearing event
-fn joined(g: Gives, z: Zoned) -> Filtered
-    requires { ⌜ g .count ≤ 3 ⌝ }
-    ensures { λ r. ⌜ r ≡ law.joined g z ⌝ }
-{
-    let mut queued = g.queued;
-    let at = g.count as usize;
-    let clearing = z.clearing;
-    queued[at] = clearing;
-    let sent = z.event;
-    let flags = z.flags;
-    Filtered {
-        gives: Gives {
-            event: sent,
-            count: g.count + one_if(z.clears),
-            queued: queued,
-        },
-        flags: flags,
-    }
-}
-
-// "The event then passes the filters, if on, in the order dpad, jitter, deadzone"
-pub fn filtered(on: bool, v: View, e: Event) -> Filtered
-    ensures { λ r. ⌜ Passed on v e r ⌝ }
-{
-    if on {
-        let g = hats::dpad(v, e);
-        let sent = g.event;
-        let z = deadzoned(v, jittered(v, sent));
-        return joined(g, z);
-    }
-    let flags = v.flags;
-    Filtered {
-        gives: hats::alone(e),
-        flags: flags,
-    }
-}
-
-// ---- the same with the queued events told one by one, so that none is made before it is pushed
-
-// what passes, how many events wait behind it, how many of them are a hat's, and the event that clears the partner
+// What passes, how many events wait behind it, how many of them are a hat's, and the event that clears the partner. The events that wait are told one by
+// one (`behind`), so that none is made before it is pushed.
 pub struct Sent {
     pub event: Event,
     pub count: u8,

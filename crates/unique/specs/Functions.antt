@@ -18,7 +18,6 @@ use Rattle.pad.specs.Found.{Placed, Named}
 use Rattle.gather.specs.EventPlaces.{PlaceIs, FoundIs, EventPlacesAre}
 use Rattle.rules.specs.Hub.{hatPlaceOf, partnerPlaceOf}
 use Rattle.hats.specs.Post.{Converted}
-use Rattle.filters.specs.Post.{Passed}
 use Rattle.filters.specs.Behind.{SentIs}
 use Rattle.repeat.specs.Post.{Scanned}
 use Rattle.turn.specs.Turn.{RingIs}
@@ -68,9 +67,6 @@ unique-event-places codes kinds names renames renamed converts newconverts hasbu
 
 pub unique-dpad : (v : View) (e : Event) → One (Converted v e)
 unique-dpad v e = one-owed _ (λ r w. w .is)
-
-pub unique-filtered : (on : Bool) (v : View) (e : Event) → One (Passed on v e)
-unique-filtered on v e = one-owed _ (λ r w. w .is)
 
 pub unique-through : (on : Bool) (v : View) (e : Event) → One (SentIs on v e)
 unique-through on v e = one-owed _ (λ r w. w .is)

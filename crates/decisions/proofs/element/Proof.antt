@@ -1,8 +1,8 @@
 -- `element` is safe: what a function requires of a whole number is what `within` answered of it.
 use borrow.Author.Needs.{needs}
-use Rattle.decided.proofs.Answers.{passed}
-use Rattle.decided.proofs.element.Statement.{statement}
-use Rattle.decided.proofs.element.Tie as tie
+use Rattle.decisions.proofs.Answers.{passed}
+use Rattle.decisions.proofs.element.Statement.{statement}
+use Rattle.decisions.proofs.element.Tie as tie
 
 whole-requires : tie.Need-whole-requires
 whole-requires c κs = search needs

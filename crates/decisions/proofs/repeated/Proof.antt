@@ -1,8 +1,8 @@
 -- `repeated` is safe: what the event requires of the record is what `due` answered of it.
 use borrow.Author.Needs.{needs}
 use mathlib.Core.Path.{sym, _∙_}
-use Rattle.recorded.proofs.repeated.Statement.{statement}
-use Rattle.recorded.proofs.repeated.Tie as tie
+use Rattle.decisions.proofs.repeated.Statement.{statement}
+use Rattle.decisions.proofs.repeated.Tie as tie
 
 element-copy-out-marks : tie.Need-element-copy-out-marks
 element-copy-out-marks c = search needs

@@ -1,8 +1,8 @@
 -- `dispatched` is safe: what `dispatch` requires of the raw value is what `within` answered of it.
 use borrow.Author.Needs.{needs}
-use Rattle.decided.proofs.Answers.{passed}
-use Rattle.decided.proofs.dispatched.Statement.{statement}
-use Rattle.decided.proofs.dispatched.Tie as tie
+use Rattle.decisions.proofs.Answers.{passed}
+use Rattle.decisions.proofs.dispatched.Statement.{statement}
+use Rattle.decisions.proofs.dispatched.Tie as tie
 
 whole-requires : tie.Need-whole-requires
 whole-requires c κs = search needs
