@@ -100,7 +100,7 @@ fn filtered(on: bool, case: &[u8; 104]) -> bool {
 }
 
 // Whether the dpad filter alone does.
-fn dpad(case: &[u8; 104]) -> bool {
+fn hat_alone(case: &[u8; 104]) -> bool {
     let v = view(case);
     let e = cases::event(case, cases::GIVEN);
     let g = hats::dpad(v, e);
@@ -115,7 +115,7 @@ fn dpad(case: &[u8; 104]) -> bool {
 }
 
 // Whether the jitter filter alone does.
-fn jitter(case: &[u8; 104]) -> bool {
+fn jitter_alone(case: &[u8; 104]) -> bool {
     if case[3] != 0 {
         return false;
     }
@@ -127,7 +127,7 @@ fn jitter(case: &[u8; 104]) -> bool {
 }
 
 // Whether the deadzone filter alone does.
-fn deadzone(case: &[u8; 104]) -> bool {
+fn deadzone_alone(case: &[u8; 104]) -> bool {
     let z = filters::deadzoned(view(case), cases::event(case, cases::GIVEN));
     let sent = z.event;
     let clearing = z.clearing;
@@ -319,9 +319,9 @@ fn repeated(case: &[u8; 104]) -> bool {
 fn right(kind: u8, case: &[u8; 104]) -> bool {
     match kind {
         1 => filtered(true, case),
-        2 => dpad(case),
-        3 => jitter(case),
-        4 => deadzone(case),
+        2 => hat_alone(case),
+        3 => jitter_alone(case),
+        4 => deadzone_alone(case),
         5 => filtered(false, case),
         6 => dispatched(case),
         7 => stored(case),
