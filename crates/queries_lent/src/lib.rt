@@ -1,173 +1,30 @@
 // The queries of document 01 on a hub that is lent: each takes the head and the arrays that it reads, and changes nothing. "Query: 6, 16"; "A query by a code
 // not known reads false or 0.0". Each answers what its definition in the law book says, at the hub that head and arrays stand for, for any numbers and whatever
 // the arrays hold that it is not lent.
+mod reading;
+
 ghost use mathlib.Core.Path.{_≡_};
 ghost use mathlib.Core.Bool.{Bool, true, false};
 ghost use mathlib.Core.List.{List};
 ghost use Prim.Native.Nat.{ℕ, _≤_};
-ghost use lib.ListN.{getD};
 ghost use lib.Ieee.{Float};
 ghost use Rattle.rules.specs.Names.{nowhere};
-ghost use Rattle.rules.specs.State.{readPressed, readValue};
-ghost use Rattle.rules.specs.Hub.{pastButton, pastAxis};
-ghost use Rattle.rules.specs.Queries.{truthBy, valueBy, buttonBy, axisBy, numberBy};
 ghost use Rattle.rules.specs.Queries.{pressedByCode, pressedByName, connectedOf, valueByCode, valueByName, thresholdByCode};
-ghost use Rattle.rules.specs.Queries.{buttonByCode, buttonByName, axisByCode, axisByName, nameByCode, codeByName};
+ghost use Rattle.rules.specs.Queries.{buttonPlaceOf, buttonByCode, buttonByName, axisByCode, axisByName, nameByCode, codeByName};
 ghost use Rattle.gather.specs.EventPlaces.{PlaceIs};
-ghost use Rattle.columns.specs.Columns.{buttonsOf, axesOf};
 ghost use Rattle.hub.specs.Lent.{Listed, Columns, listed, columns, hubOf};
-ghost use Rattle.rules.specs.Queries.{buttonPlaceOf};
 use columns::Marks;
 use columns::Times;
 use columns::Values;
 use hub::Head;
 use rules::AxisAnswer;
-use rules::AxisData;
 use rules::ButtonAnswer;
-use rules::ButtonData;
 use rules::ELEMENT_AXIS;
 use rules::NO_NAME;
 use rules::NOWHERE;
 use rules::NumberAnswer;
 use rules::TruthAnswer;
 use rules::ValueAnswer;
-
-// ---- an answer: the refusal's number, else what was asked for, else that it is absent
-
-fn truth(refusal: u8, b: bool) -> TruthAnswer
-    ensures { λ r. ⌜ r ≡ truthBy refusal b ⌝ }
-{
-    if refusal == 0 {
-        TruthAnswer::Is(b)
-    } else {
-        TruthAnswer::Refused(refusal)
-    }
-}
-
-fn number(refusal: u8, here: bool, x: u32) -> NumberAnswer
-    ensures { λ r. ⌜ r ≡ numberBy refusal here x ⌝ }
-{
-    if refusal != 0 {
-        return NumberAnswer::Refused(refusal);
-    }
-    if here {
-        NumberAnswer::Number(x)
-    } else {
-        NumberAnswer::Absent
-    }
-}
-
-fn value_or_absent(refusal: u8, here: bool, v: f32) -> ValueAnswer
-    ensures { λ r. ⌜ r ≡ valueBy refusal here v ⌝ }
-{
-    if refusal != 0 {
-        return ValueAnswer::Refused(refusal);
-    }
-    if here {
-        ValueAnswer::Value(v)
-    } else {
-        ValueAnswer::Absent
-    }
-}
-
-fn button_or_absent(refusal: u8, here: bool, b: ButtonData) -> ButtonAnswer
-    ensures { λ r. ⌜ r ≡ buttonBy refusal here b ⌝ }
-{
-    if refusal != 0 {
-        return ButtonAnswer::Refused(refusal);
-    }
-    if here {
-        ButtonAnswer::Data(b)
-    } else {
-        ButtonAnswer::Absent
-    }
-}
-
-fn axis_or_absent(refusal: u8, here: bool, a: AxisData) -> AxisAnswer
-    ensures { λ r. ⌜ r ≡ axisBy refusal here a ⌝ }
-{
-    if refusal != 0 {
-        return AxisAnswer::Refused(refusal);
-    }
-    if here {
-        AxisAnswer::Data(a)
-    } else {
-        AxisAnswer::Absent
-    }
-}
-
-// ---- what stands at a place, behind a refusal
-
-fn pressed_at(
-    hasbutton: &[bool; 208],
-    values: &Values,
-    times: &Times,
-    marks: &Marks,
-    refusal: u8,
-    place: usize,
-) -> TruthAnswer
-    requires { ⌜ place ≤ nowhere ⌝ }
-    ensures { λ r. ⌜ r ≡ truthBy refusal (readPressed (getD (now (hasbutton .entry)) place false)
-        (getD (buttonsOf (now (values .entry)) (now (times .entry)) (now (marks .entry))) place pastButton)) ⌝ }
-{
-    let known = pad::bool_at(hasbutton, place);
-    let b = columns::button_at(values, times, marks, place);
-    truth(refusal, state::read_pressed(known, b))
-}
-
-fn value_at(
-    hasbutton: &[bool; 208],
-    hasaxis: &[bool; 208],
-    values: &Values,
-    times: &Times,
-    marks: &Marks,
-    refusal: u8,
-    place: usize,
-) -> ValueAnswer
-    requires { ⌜ place ≤ nowhere ⌝ }
-    ensures { λ r. ⌜ r ≡ valueBy refusal true (readValue (getD (now (hasaxis .entry)) place false)
-        (getD (axesOf (now (values .entry)) (now (times .entry))) place pastAxis) (getD (now (hasbutton .entry)) place false)
-        (getD (buttonsOf (now (values .entry)) (now (times .entry)) (now (marks .entry))) place pastButton)) ⌝ }
-{
-    let sticks = pad::bool_at(hasaxis, place);
-    let a = columns::axis_at(values, times, place);
-    let known = pad::bool_at(hasbutton, place);
-    let b = columns::button_at(values, times, marks, place);
-    value_or_absent(refusal, true, state::read_value(sticks, a, known, b))
-}
-
-fn button_at(
-    hasbutton: &[bool; 208],
-    values: &Values,
-    times: &Times,
-    marks: &Marks,
-    refusal: u8,
-    place: usize,
-) -> ButtonAnswer
-    requires { ⌜ place ≤ nowhere ⌝ }
-    ensures { λ r. ⌜ r ≡ buttonBy refusal (getD (now (hasbutton .entry)) place false)
-        (getD (buttonsOf (now (values .entry)) (now (times .entry)) (now (marks .entry))) place pastButton) ⌝ }
-{
-    let known = pad::bool_at(hasbutton, place);
-    let b = columns::button_at(values, times, marks, place);
-    button_or_absent(refusal, known, b)
-}
-
-fn axis_at(
-    hasaxis: &[bool; 208],
-    values: &Values,
-    times: &Times,
-    refusal: u8,
-    place: usize,
-) -> AxisAnswer
-    requires { ⌜ place ≤ nowhere ⌝ }
-    ensures { λ r. ⌜ r ≡ axisBy refusal (getD (now (hasaxis .entry)) place false)
-        (getD (axesOf (now (values .entry)) (now (times .entry))) place pastAxis) ⌝ }
-{
-    let sticks = pad::bool_at(hasaxis, place);
-    let a = columns::axis_at(values, times, place);
-    axis_or_absent(refusal, sticks, a)
-}
 
 // ---- pressed
 
@@ -189,7 +46,7 @@ pub fn is_pressed_by_code(
 {
     let refusal = refusals::pad_refusal(head.pads, p);
     let place = pad::place_of(codes, p, code);
-    pressed_at(hasbutton, values, times, marks, refusal, place)
+    reading::pressed_at(hasbutton, values, times, marks, refusal, place)
 }
 
 // "`is_pressed` by a name that no element has falls back to `to_nec`"
@@ -231,7 +88,7 @@ pub fn is_pressed<'s>(
 {
     let refusal = refusals::button_query_refusal(head.pads, p, name);
     let place = button_place(codes, names, renames, &head.renamed, p, name);
-    pressed_at(hasbutton, values, times, marks, refusal, place)
+    reading::pressed_at(hasbutton, values, times, marks, refusal, place)
 }
 
 // ---- value
@@ -255,7 +112,7 @@ pub fn value_by_code(
 {
     let refusal = refusals::pad_refusal(head.pads, p);
     let place = pad::place_of(codes, p, code);
-    value_at(hasbutton, hasaxis, values, times, marks, refusal, place)
+    reading::value_at(hasbutton, hasaxis, values, times, marks, refusal, place)
 }
 
 // The same by an axis's name. Refuses 6, 16.
@@ -278,7 +135,7 @@ pub fn value<'s>(
 {
     let refusal = refusals::axis_query_refusal(head.pads, p, name);
     let place = gather::present_place(names, renames, &head.renamed, p, name);
-    value_at(hasbutton, hasaxis, values, times, marks, refusal, place)
+    reading::value_at(hasbutton, hasaxis, values, times, marks, refusal, place)
 }
 
 // ---- records
@@ -301,7 +158,7 @@ pub fn button_data_by_code(
 {
     let refusal = refusals::pad_refusal(head.pads, p);
     let place = pad::place_of(codes, p, code);
-    button_at(hasbutton, values, times, marks, refusal, place)
+    reading::button_at(hasbutton, values, times, marks, refusal, place)
 }
 
 // The button record of a name, or Absent. Refuses 6, 16.
@@ -323,7 +180,7 @@ pub fn button_data<'s>(
 {
     let refusal = refusals::button_query_refusal(head.pads, p, name);
     let place = gather::present_place(names, renames, &head.renamed, p, name);
-    button_at(hasbutton, values, times, marks, refusal, place)
+    reading::button_at(hasbutton, values, times, marks, refusal, place)
 }
 
 // The axis record of a code, or Absent. Refuses 6.
@@ -343,7 +200,7 @@ pub fn axis_data_by_code(
 {
     let refusal = refusals::pad_refusal(head.pads, p);
     let place = pad::place_of(codes, p, code);
-    axis_at(hasaxis, values, times, refusal, place)
+    reading::axis_at(hasaxis, values, times, refusal, place)
 }
 
 // The axis record of a name, or Absent. Refuses 6, 16.
@@ -364,7 +221,7 @@ pub fn axis_data<'s>(
 {
     let refusal = refusals::axis_query_refusal(head.pads, p, name);
     let place = gather::present_place(names, renames, &head.renamed, p, name);
-    axis_at(hasaxis, values, times, refusal, place)
+    reading::axis_at(hasaxis, values, times, refusal, place)
 }
 
 // ---- the sheet: thresholds, names and codes
@@ -388,7 +245,7 @@ pub fn deadzone_threshold(
     let place = pad::place_of(codes, p, code);
     let kind = pad::kind_at(kinds, place);
     let element = columns::element_at(values, marks, place);
-    value_or_absent(refusal, kind == ELEMENT_AXIS, element.threshold)
+    reading::value_or_absent(refusal, kind == ELEMENT_AXIS, element.threshold)
 }
 
 // gilrs's `axis_or_btn_name`.
@@ -408,7 +265,7 @@ pub fn axis_or_btn_name<'s>(
     let refusal = refusals::pad_refusal(head.pads, p);
     let place = pad::place_of(codes, p, code);
     let name = gather::present_name(names, renames, &head.renamed, p, place);
-    number(refusal, name != NO_NAME, name as u32)
+    reading::number(refusal, name != NO_NAME, name as u32)
 }
 
 // gilrs's `button_code` and `axis_code`: the name's byte says which.
@@ -428,7 +285,7 @@ pub fn code_of_name<'s>(
     let refusal = refusals::name_query_refusal(head.pads, p, name);
     let place = gather::present_place(names, renames, &head.renamed, p, name);
     let code = pad::code_at(codes, place);
-    number(refusal, place < NOWHERE, code)
+    reading::number(refusal, place < NOWHERE, code)
 }
 
 // ---- the head
@@ -438,7 +295,7 @@ pub fn is_connected(head: Head, p: u8) -> TruthAnswer
     ensures { λ r. ⌜ ((s : Listed) (t : Columns) → r ≡ connectedOf (hubOf head s t) p) ⌝ }
 {
     let refusal = refusals::pad_refusal(head.pads, p);
-    truth(refusal, pad::pad_bool(&head.connected, p))
+    reading::truth(refusal, pad::pad_bool(&head.connected, p))
 }
 
 // How many events wait.

@@ -1,7 +1,7 @@
 -- `queries_lent::number` meets its contract: by the number.
 use Rattle.queries_lent.specs.Refused.{number-refused}
-use Rattle.queries_lent.proofs.number.Statement.{statement}
-use Rattle.queries_lent.proofs.number.Tie as tie
+use Rattle.queries_lent.proofs.reading.number.Statement.{statement}
+use Rattle.queries_lent.proofs.reading.number.Tie as tie
 
 returns : tie.Need-returns
 returns c = number-refused _ _ _ (c .if1 .taken)

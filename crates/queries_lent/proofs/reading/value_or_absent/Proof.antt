@@ -1,7 +1,7 @@
 -- `queries_lent::value_or_absent` meets its contract: by the number.
 use Rattle.queries_lent.specs.Refused.{value-refused}
-use Rattle.queries_lent.proofs.value_or_absent.Statement.{statement}
-use Rattle.queries_lent.proofs.value_or_absent.Tie as tie
+use Rattle.queries_lent.proofs.reading.value_or_absent.Statement.{statement}
+use Rattle.queries_lent.proofs.reading.value_or_absent.Tie as tie
 
 returns : tie.Need-returns
 returns c = value-refused _ _ _ (c .if1 .taken)

@@ -1,7 +1,7 @@
 -- `queries_lent::truth` meets its contract: by the number.
 use Rattle.queries_lent.specs.Refused.{truth-refused}
-use Rattle.queries_lent.proofs.truth.Statement.{statement}
-use Rattle.queries_lent.proofs.truth.Tie as tie
+use Rattle.queries_lent.proofs.reading.truth.Statement.{statement}
+use Rattle.queries_lent.proofs.reading.truth.Tie as tie
 
 returns : tie.Need-returns
 returns c = rw (c .if1 .taken)
