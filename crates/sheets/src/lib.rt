@@ -25,10 +25,6 @@ const ELEMENT_LIMIT: u8 = 48;
 
 const LAST_HATS: u8 = 15;
 
-const LAST_DEADZONE: u32 = 16777215;
-
-const ABSENT: u32 = 0xffff_ffff;
-
 // ---- elements
 
 // The fields of an element at a place.
@@ -107,10 +103,7 @@ fn axis_fits(e: SheetElement) -> bool
     if !below(e.min, e.max) {
         return false;
     }
-    if e.deadzone <= LAST_DEADZONE {
-        return true;
-    }
-    e.deadzone == ABSENT
+    scale::deadzone_within(e.deadzone)
 }
 
 // Kind, name, and the limits of its kind.
