@@ -1,4 +1,4 @@
-// Small decisions as values. A caller that calls them has one way through its code where a branch would leave two, and its proof has one case.
+// `&&`, `||`, a choice and a minimum as functions. Where a body would branch, its proof would have two cases from there on; a call leaves one.
 ghost use mathlib.Core.Path.{_≡_};
 ghost use mathlib.Core.Bool.{cond, _&&_, _||_};
 ghost use Prim.Native.Nat.{min, _<_};

@@ -1,5 +1,5 @@
-// The filters in their order, dpad, jitter, deadzone, as decisions on what each sees of the hub: gilrs's `Jitter` and `deadzone`, after the crate
-// `hats`.
+// The filters in their order, dpad, jitter, deadzone (gilrs's ev/filter.rs), as decisions on small values: what each sees of the hub is a `View`, gathered before. A
+// dropped event is the event Dropped, as in gilrs.
 ghost use mathlib.Core.Path.{_≡_};
 ghost use mathlib.Core.Bool.{cond};
 ghost use Rattle.numbers.specs.Constants.{zero32};

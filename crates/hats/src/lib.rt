@@ -1,4 +1,5 @@
-// A hat's axis as the buttons of its directions: gilrs's `axis_dpad_to_button`, on what it sees of the hub.
+// The dpad filter: a move of a hat's axis becomes presses and releases of its directions (gilrs's `axis_dpad_to_button`). It answers the event that passes and how
+// many wait behind it; `queued` tells those one by one.
 ghost use mathlib.Core.Path.{_≡_};
 ghost use mathlib.Core.Bool.{true, false, cond};
 ghost use Rattle.rules.specs.Events as events;
@@ -206,7 +207,7 @@ fn hat_at(v: View, e: Event, n: u8, up: bool, down: bool, at: usize) -> Event
     centred_at(e, v.positive, name, code, othername, othercode, at)
 }
 
-// What `dpad` queues at a place; where it queues nothing there, any event.
+// The event that `dpad` queues at a place of its queue. Callers ask only below its count; past it the answer is some event and means nothing.
 pub fn queued(v: View, e: Event, at: usize) -> Event
     ensures { λ r. ⌜ r ≡ queuedAt v e at ⌝ }
 {

@@ -127,7 +127,7 @@ pub fn named(names: &[u8; 208], pad: u8, name: u8) -> usize
 
 // ---- columns read at any index
 
-// Behind a part of a known length stands the whole column: these serve each length.
+// Columns are arrays of 208, 24 or 4. Each is lent on as a slice to one of these, so that a column of any length is read and marked by one proof.
 
 fn bool_in(marks: &[bool], at: usize) -> bool
     ensures { λ r. ⌜ r ≡ getD (now (marks .entry)) at false ⌝ }

@@ -226,7 +226,7 @@ pub fn axis_data<'s>(
 
 // ---- the sheet: thresholds, names and codes
 
-// "Deadzone threshold. Axis elements only": gilrs's `deadzone_threshold`.
+// "Deadzone threshold. Axis elements only": gilrs's `Gamepad::deadzone`. Refuses 6.
 pub fn deadzone_threshold(
     head: Head,
     codes: &[u32; 208],
@@ -248,7 +248,7 @@ pub fn deadzone_threshold(
     reading::value_or_absent(refusal, kind == ELEMENT_AXIS, element.threshold)
 }
 
-// gilrs's `axis_or_btn_name`.
+// gilrs's `Gamepad::axis_or_btn_name`: the present name of a code, or Absent. Refuses 6.
 pub fn axis_or_btn_name<'s>(
     head: Head,
     codes: &[u32; 208],
@@ -268,7 +268,7 @@ pub fn axis_or_btn_name<'s>(
     reading::number(refusal, name != NO_NAME, name as u32)
 }
 
-// gilrs's `button_code` and `axis_code`: the name's byte says which.
+// gilrs's `button_code` and `axis_code`, the name's byte says which: the code that has a name at present, or Absent. Refuses 6, 16.
 pub fn code_of_name<'s>(
     head: Head,
     codes: &[u32; 208],

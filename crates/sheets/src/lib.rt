@@ -155,8 +155,8 @@ fn elements_fit(s: &[u8], count: usize) -> bool
 
 // ---- 5: "a name stands twice"
 
-// Names stand in bytes at start, start + stride, ..: every 18th byte of a sheet, every byte of a rename list. The name is among those from a
-// number on.
+// Whether a name is among those from the i-th on. Names stand every 18th byte in a sheet and every byte in a rename list: the first at `start`, the next `stride`
+// further.
 fn occurs_in(s: &[u8], start: usize, stride: usize, name: u8, first: usize, count: usize) -> bool
     requires { ⌜ Spread (now s) start stride count ⌝ }
     ensures { λ r. ⌜ r ≡ occursIn (now (s .entry)) start stride name (count - first) first ⌝ }

@@ -189,7 +189,7 @@ pub fn place_after(waiting: u8, at: usize) -> usize
 
 // ---- what is pushed
 
-// What a record queues itself stands first; without it the filters' first is pushed first.
+// Where the list of events to push begins: at 0, the event that the record itself queues, or at 1, past it, where the record queues none.
 pub fn first_pushed(follows: bool) -> usize
     ensures { λ r. ⌜ r ≡ cond follows 0 1 ⌝ }
 {
