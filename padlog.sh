@@ -6,4 +6,4 @@ cd "$(dirname "${BASH_SOURCE[0]}")"
 sheet=${1:-hat} batch=${2:-hat}
 mkdir -p target
 rt check padlog 2>&1 | scripts/progress padlog >target/padlog.log || { cat target/padlog.log >&2; exit 1; }
-cat "desk-files/sheets/$sheet.bin" "desk-files/batches/$batch.bin" | desk-files/run padlog
+cat "desk-files/sheets/$sheet.bin" "desk-files/batches/$batch.bin" | scripts/run padlog

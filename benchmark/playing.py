@@ -1,13 +1,13 @@
 """Plays courses on the hub's program and on the crate's, and reads what they say.
 
-The folder, the program's first word, holds crate_pace and the courses that it made; the hub is run by desk-files/run."""
+The folder, the program's first word, holds crate_pace and the courses that it made; the hub is run by scripts/run."""
 import os
 import resource
 import subprocess
 import sys
 
 ROOT = os.path.dirname(os.path.dirname(os.path.abspath(__file__)))
-RUN = os.path.join(ROOT, 'desk-files', 'run')
+RUN = os.path.join(ROOT, 'scripts', 'run')
 ORACLE = os.path.join(ROOT, 'oracle', 'build', 'oracle')
 PROGRAM = os.path.join(ROOT, 'target', 'bin', 'pace')
 FOLDER = os.path.abspath(sys.argv[1])

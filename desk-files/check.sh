@@ -6,7 +6,7 @@ files=$(cd "$(dirname "${BASH_SOURCE[0]}")" && pwd)
 folder=$(mktemp -d)
 trap 'rm -rf "$folder"' EXIT
 
-play() { cat "$files/sheets/$1.bin" "$files/batches/$2.bin" | "$files/run" padlog; }
+play() { cat "$files/sheets/$1.bin" "$files/batches/$2.bin" | "$files/../scripts/run" padlog; }
 
 cases=0
 while read -r sheet batch; do
@@ -16,7 +16,7 @@ while read -r sheet batch; do
   cases=$((cases + 1))
 done <"$files/cases.txt"
 # more than any buffer holds: the batch is too long whatever follows
-{ cat "$files/sheets/hat.bin"; head -c 3000000 /dev/zero; } | "$files/run" padlog >"$folder/played"
+{ cat "$files/sheets/hat.bin"; head -c 3000000 /dev/zero; } | "$files/../scripts/run" padlog >"$folder/played"
 diff <(echo 'STOPPED 14 0') "$folder/played"
 echo "padlog: $cases cases, each as gilrs plays it"
 

@@ -12,7 +12,7 @@ trap 'rm -rf "$folder"' EXIT
 
 # the hub's answers to a scenario file against gilrs's; a name for what was played
 compare() {
-  "$oracle/../desk-files/run" replay <"$1" >"$folder/hub.txt"
+  "$oracle/../scripts/run" replay <"$1" >"$folder/hub.txt"
   cmp -s "$2" "$folder/hub.txt" && return
   diff "$2" "$folder/hub.txt" | head -n 20 || true
   echo "a difference on $3: gilrs is '<', the hub '>'"

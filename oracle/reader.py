@@ -3,7 +3,7 @@
 
     python3 oracle/reader.py make [FOLDER]
 
-writes cases.bin and answers.txt (into oracle/forms/ if no folder is named): good and damaged sheets, records and
+writes stdin and stdout (those of crates/forms if no folder is named): good and damaged sheets, records and
 events, each with the pads that it meets, and this reader's answer to each. Readers in other languages are compared with
 that list.
 
@@ -334,10 +334,10 @@ def cases():
 def make(folder):
     os.makedirs(folder, exist_ok=True)
     made = list(cases())
-    with open(os.path.join(folder, "cases.bin"), "wb") as forms:
+    with open(os.path.join(folder, "stdin"), "wb") as forms:
         for kind, payload, _, _ in made:
             forms.write(struct.pack(">BI", kind, len(payload)) + payload)
-    with open(os.path.join(folder, "answers.txt"), "w") as answers:
+    with open(os.path.join(folder, "stdout"), "w") as answers:
         for _, _, word, refusal in made:
             answers.write(f"{word} {refusal or 'ok'}\n")
 
@@ -345,4 +345,4 @@ def make(folder):
 if __name__ == "__main__":
     if sys.argv[1:2] != ["make"] or len(sys.argv) > 3:
         sys.exit(__doc__)
-    make(sys.argv[2] if len(sys.argv) == 3 else os.path.join(os.path.dirname(os.path.abspath(__file__)), "forms"))
+    make(sys.argv[2] if len(sys.argv) == 3 else os.path.join(os.path.dirname(os.path.abspath(__file__)), "..", "crates", "forms"))

@@ -1,3 +1,4 @@
+// binary32 by its bits: a value and its bits, gilrs's clamp, and the square root worked out on whole numbers, which is IEEE 754's for every f32.
 ghost use mathlib.Core.Path.{_≡_};
 ghost use Prim.Native.Nat.{_+_, _-_, _*_, _/_, _%_, _≤_, _<_, _^_};
 ghost use lib.Ieee as Ieee;
@@ -88,13 +89,13 @@ fn near_root(w: u64) -> u64
     r
 }
 
-// m * 2^z is 2^24 times a number of units, and m has 24 digits
+// A number above 0, counted in units of 2^-149 (the smallest binary32): 2^24 times its units is m * 2^z, and m has 24 binary digits.
 pub struct Leading {
     pub m: u64,
     pub z: u32,
 }
 
-// the units of a finite number above 0, from its bits: a subnormal one is moved up until its leading digit stands at the top
+// The same from the bits of a finite number above 0: the significand of a subnormal one is doubled until it has 24 digits.
 fn apart(bits: u32) -> Leading
     requires { ⌜ (0 < bits) × (bits < 0x7f80_0000) ⌝ }
     ensures { λ r. ⌜ Apart (unitsAt bits) (r .m) (r .z) ⌝ }

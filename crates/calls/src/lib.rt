@@ -1,119 +1,148 @@
-// The calls of document 01 that take an event's bytes: `update` gives it to the state, `insert_event` to the queue. Each takes any hub and any bytes,
-// and answers what its definition in the law book says; a refusal leaves the hub as it was.
+// The calls of document 01 that take an event's bytes, on a hub that is lent: `update` gives it to the state, `insert_event` to the queue. Each is lent the arrays
+// that it reads and changes, and answers what its definition in the law book says, at the hub that head and arrays stand for, whatever the others hold; a
+// refusal leaves the hub as it was.
 ghost use mathlib.Core.Path.{_≡_};
-ghost use mathlib.Core.Bool.{true};
-ghost use Prim.Native.Nat.{_≤_};
-ghost use Rattle.rules.specs.Names.{nowhere};
-ghost use Rattle.rules.specs.Step.{updatedAt};
-ghost use Rattle.rules.specs.Calls.{updateOf, insertedAt, insertOf};
+ghost use mathlib.Core.Bool.{Bool};
+ghost use mathlib.Core.List.{List};
+ghost use Prim.Native.Nat.{ℕ};
+ghost use Rattle.rules.specs.Calls.{updateOf, insertOf};
+ghost use Rattle.hub.specs.Lent.{listed, columns, hubOf, answered};
 ghost use Rattle.calls.specs.Judged.{updateForm, insertForm};
+use columns::Marks;
+use columns::QueueBytes;
+use columns::QueueCodes;
+use columns::Times;
+use columns::Values;
+use hub::AnsweredHead;
+use hub::Head;
 use rules::Answer;
-use rules::Answered;
-use rules::Event;
 use rules::EventForm;
 use rules::EventRead;
-use rules::Hub;
 use rules::MALFORMED;
 
 // ---- update: 8, 6, 9, 11, 12
 
-// The records of an event's code after it, as the pump writes them with updates on.
-fn updated(h: Hub, e: Event, place: usize) -> Hub
-    requires { ⌜ place ≤ nowhere ⌝ }
-    ensures { λ r. ⌜ r ≡ updatedAt true h e place ⌝ }
+// A form that is well made: refused, or done. The place of the form's code is the event's too, but for kinds 6 to 8, which carry no code.
+fn update_form(
+    head: Head,
+    codes: &[u32; 208],
+    hasbutton: &mut [bool; 208],
+    hasaxis: &mut [bool; 208],
+    values: &mut Values,
+    times: &mut Times,
+    marks: &mut Marks,
+    f: EventForm,
+) -> Answer
+    ensures { λ r. ⌜ ((kinds names renames queuebytes queuecodes : List ℕ) →
+        answered head (listed (now (codes .entry)) kinds names renames)
+        (columns (now (hasbutton .exit)) (now (hasaxis .exit)) (now (values .exit)) (now (times .exit)) (now (marks .exit)) queuebytes queuecodes) r
+        ≡ updateForm (hubOf head (listed (now (codes .entry)) kinds names renames)
+        (columns (now (hasbutton .entry)) (now (hasaxis .entry)) (now (values .entry)) (now (times .entry)) (now (marks .entry)) queuebytes queuecodes)) f) ⌝ }
 {
-    let mut g = h;
-    let hasbutton = pad::bool_at(&g.hasbutton, place);
-    let hasaxis = pad::bool_at(&g.hasaxis, place);
-    let b = g.buttons[place];
-    let a = g.axes[place];
-    let button = turn::button_written(true, e, hasbutton, b, g.counter);
-    let axis = turn::axis_written(true, e, a, g.counter);
-    let touches = turn::known_after(hasbutton, true, state::writes_button(e));
-    let moves = turn::known_after(hasaxis, true, state::writes_axis(e));
-    g.buttons[place] = button;
-    g.axes[place] = axis;
-    pad::mark(&mut g.hasbutton, place, touches);
-    pad::mark(&mut g.hasaxis, place, moves);
-    g
-}
-
-// A form that is well made: refused, or done. Events of kinds 6 to 8 carry no code, and the place of theirs is looked up as the definition has it.
-fn update_form(h: Hub, f: EventForm) -> Answered
-    ensures { λ r. ⌜ r ≡ updateForm h f ⌝ }
-{
-    let place = pad::place_of(&h.codes, f.pad, f.code);
-    let refusal = refusals::form_refusal(f, h.pads, place);
+    let place = pad::place_of(codes, f.pad, f.code);
+    let refusal = refusals::form_refusal(f, head.pads, place);
     if refusal != 0 {
-        return Answered {
-            hub: h,
-            answer: Answer::Refused(refusal),
-        };
+        return Answer::Refused(refusal);
     }
     let e = events::form_event(f);
-    let at = pad::place_of(&h.codes, e.pad, events::code_of(e));
-    let g = updated(h, e, at);
-    Answered {
-        hub: g,
-        answer: Answer::Done,
-    }
+    cells::settle(
+        codes,
+        hasbutton,
+        hasaxis,
+        values,
+        times,
+        marks,
+        true,
+        e,
+        head.counter,
+        f.pad,
+        f.code,
+        place,
+    );
+    Answer::Done
 }
 
-pub fn update(h: Hub, event: &[u8]) -> Answered
-    ensures { λ r. ⌜ r ≡ updateOf h (now (event .entry)) ⌝ }
+// Gives an event to the state.
+pub fn update(
+    head: Head,
+    codes: &[u32; 208],
+    hasbutton: &mut [bool; 208],
+    hasaxis: &mut [bool; 208],
+    values: &mut Values,
+    times: &mut Times,
+    marks: &mut Marks,
+    event: &[u8],
+) -> Answer
+    ensures { λ r. ⌜ ((kinds names renames queuebytes queuecodes : List ℕ) →
+        answered head (listed (now (codes .entry)) kinds names renames)
+        (columns (now (hasbutton .exit)) (now (hasaxis .exit)) (now (values .exit)) (now (times .exit)) (now (marks .exit)) queuebytes queuecodes) r
+        ≡ updateOf (hubOf head (listed (now (codes .entry)) kinds names renames)
+        (columns (now (hasbutton .entry)) (now (hasaxis .entry)) (now (values .entry)) (now (times .entry)) (now (marks .entry)) queuebytes queuecodes))
+        (now (event .entry))) ⌝ }
 {
     let read = wire::read_event(event);
     match read {
-        EventRead::Form(f) => update_form(h, f),
-        EventRead::Malformed => Answered {
-            hub: h,
-            answer: Answer::Refused(MALFORMED),
-        },
+        EventRead::Form(f) => update_form(head, codes, hasbutton, hasaxis, values, times, marks, f),
+        EventRead::Malformed => Answer::Refused(MALFORMED),
     }
 }
 
 // ---- insert_event: the same, then 13
 
-// One event more waits.
-fn inserted(h: Hub, e: Event) -> Hub
-    ensures { λ r. ⌜ r ≡ insertedAt h e ⌝ }
+fn insert_form(
+    head: Head,
+    codes: &[u32; 208],
+    values: &mut Values,
+    times: &mut Times,
+    queuebytes: &mut QueueBytes,
+    queuecodes: &mut QueueCodes,
+    f: EventForm,
+) -> AnsweredHead
+    ensures { λ r. ⌜ ((kinds names renames : List ℕ) (hasbutton hasaxis marks : List Bool) →
+        answered (r .head) (listed (now (codes .entry)) kinds names renames)
+        (columns hasbutton hasaxis (now (values .exit)) (now (times .exit)) marks (now (queuebytes .exit)) (now (queuecodes .exit))) (r .answer)
+        ≡ insertForm (hubOf head (listed (now (codes .entry)) kinds names renames)
+        (columns hasbutton hasaxis (now (values .entry)) (now (times .entry)) marks (now (queuebytes .entry)) (now (queuecodes .entry)))) f) ⌝ }
 {
-    let mut g = h;
-    let at = turn::free(g.head, g.waiting);
-    let longer = turn::longer(g.waiting);
-    let slot = events::slot_of(e);
-    g.queue[at] = slot;
-    g.waiting = longer;
-    g
-}
-
-fn insert_form(h: Hub, f: EventForm) -> Answered
-    ensures { λ r. ⌜ r ≡ insertForm h f ⌝ }
-{
-    let place = pad::place_of(&h.codes, f.pad, f.code);
+    let mut h = head;
+    let place = pad::place_of(codes, f.pad, f.code);
     let refusal = refusals::insert_refusal(f, h.pads, place, h.waiting);
     if refusal != 0 {
-        return Answered {
-            hub: h,
+        return AnsweredHead {
+            head: h,
             answer: Answer::Refused(refusal),
         };
     }
     let e = events::form_event(f);
-    let g = inserted(h, e);
-    Answered {
-        hub: g,
+    h.waiting = queueing::push(values, times, queuebytes, queuecodes, h.head, h.waiting, e);
+    AnsweredHead {
+        head: h,
         answer: Answer::Done,
     }
 }
 
-pub fn insert_event(h: Hub, event: &[u8]) -> Answered
-    ensures { λ r. ⌜ r ≡ insertOf h (now (event .entry)) ⌝ }
+// Lets an event wait.
+pub fn insert_event(
+    head: Head,
+    codes: &[u32; 208],
+    values: &mut Values,
+    times: &mut Times,
+    queuebytes: &mut QueueBytes,
+    queuecodes: &mut QueueCodes,
+    event: &[u8],
+) -> AnsweredHead
+    ensures { λ r. ⌜ ((kinds names renames : List ℕ) (hasbutton hasaxis marks : List Bool) →
+        answered (r .head) (listed (now (codes .entry)) kinds names renames)
+        (columns hasbutton hasaxis (now (values .exit)) (now (times .exit)) marks (now (queuebytes .exit)) (now (queuecodes .exit))) (r .answer)
+        ≡ insertOf (hubOf head (listed (now (codes .entry)) kinds names renames)
+        (columns hasbutton hasaxis (now (values .entry)) (now (times .entry)) marks (now (queuebytes .entry)) (now (queuecodes .entry))))
+        (now (event .entry))) ⌝ }
 {
     let read = wire::read_event(event);
     match read {
-        EventRead::Form(f) => insert_form(h, f),
-        EventRead::Malformed => Answered {
-            hub: h,
+        EventRead::Form(f) => insert_form(head, codes, values, times, queuebytes, queuecodes, f),
+        EventRead::Malformed => AnsweredHead {
+            head: head,
             answer: Answer::Refused(MALFORMED),
         },
     }

@@ -127,6 +127,7 @@ fn whole_codes(s: &QueueCodes)
 
 // ---- a record read
 
+// What an axis element keeps at a place.
 pub fn element_at(values: &Values, marks: &Marks, k: usize) -> Element
     requires { ⌜ k ≤ nowhere ⌝ }
     ensures { λ r. ⌜ r ≡ getD (elementsOf (now (values .entry)) (now (marks .entry))) k pastElement ⌝ }
@@ -139,6 +140,7 @@ pub fn element_at(values: &Values, marks: &Marks, k: usize) -> Element
     }
 }
 
+// The button record of a place.
 pub fn button_at(values: &Values, times: &Times, marks: &Marks, k: usize) -> ButtonData
     requires { ⌜ k ≤ nowhere ⌝ }
     ensures { λ r. ⌜ r ≡ getD (buttonsOf (now (values .entry)) (now (times .entry)) (now (marks .entry))) k pastButton ⌝ }
@@ -152,6 +154,7 @@ pub fn button_at(values: &Values, times: &Times, marks: &Marks, k: usize) -> But
     }
 }
 
+// The axis record of a place.
 pub fn axis_at(values: &Values, times: &Times, k: usize) -> AxisData
     requires { ⌜ k ≤ nowhere ⌝ }
     ensures { λ r. ⌜ r ≡ getD (axesOf (now (values .entry)) (now (times .entry))) k pastAxis ⌝ }
@@ -163,6 +166,7 @@ pub fn axis_at(values: &Values, times: &Times, k: usize) -> AxisData
     }
 }
 
+// The event that waits in a slot of the ring.
 pub fn slot_at(
     values: &Values,
     times: &Times,
@@ -185,6 +189,7 @@ pub fn slot_at(
 
 // ---- a record stored: its own list has it, and the other lists are as they were
 
+// Stores a button record; every other cell stays.
 pub fn put_button(
     values: &mut Values,
     times: &mut Times,
@@ -205,6 +210,7 @@ pub fn put_button(
     marks[REPEATING + k] = b.repeating;
 }
 
+// Stores an axis record; every other cell stays.
 pub fn put_axis(values: &mut Values, times: &mut Times, k: usize, a: AxisData)
     requires { ⌜ k ≤ nowhere ⌝ }
     ensures { λ _. ⌜ AxisPut (now (values .entry)) (now (times .entry)) k a (now (values .exit)) (now (times .exit)) ⌝ }
@@ -216,6 +222,7 @@ pub fn put_axis(values: &mut Values, times: &mut Times, k: usize, a: AxisData)
     times[AXIS_COUNTERS + k] = a.counter;
 }
 
+// Stores what an axis element keeps; every other cell stays.
 pub fn put_element(values: &mut Values, marks: &mut Marks, k: usize, e: Element)
     requires { ⌜ k ≤ nowhere ⌝ }
     ensures { λ _. ⌜ ElementPut (now (values .entry)) (now (marks .entry)) k e (now (values .exit)) (now (marks .exit)) ⌝ }
@@ -228,6 +235,7 @@ pub fn put_element(values: &mut Values, marks: &mut Marks, k: usize, e: Element)
     values[THRESHOLDS + k] = e.threshold;
 }
 
+// Stores an event in a slot of the ring; every other cell stays.
 pub fn put_slot(
     values: &mut Values,
     times: &mut Times,
@@ -254,6 +262,7 @@ pub fn put_slot(
 
 // ---- all records made blank, whatever the arrays held
 
+// Every record and every slot as a fresh hub has them.
 pub fn blank(
     values: &mut Values,
     times: &mut Times,

@@ -1,2 +1,4 @@
-pub mod Laid
-pub mod Calls
+pub mod Heads
+pub mod Fresh
+pub mod Register
+pub mod Rename

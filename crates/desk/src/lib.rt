@@ -1,58 +1,42 @@
-// The calls that set a desk up: a fresh hub, a pad from its sheet, and new names for a pad. Each equals its definition in the law book for every input.
+// The calls that set a desk up, on a hub that is lent: a fresh hub, a pad from its sheet, and new names for a pad. The head goes in and comes back by value,
+// each array is lent by itself and changed where it stands. Each equals its definition in the law book for every input, at the hub that head and arrays stand
+// for, whatever the arrays hold that it is not lent.
 ghost use mathlib.Core.Path.{_≡_};
-ghost use Prim.Native.Nat.{_+_, _*_, _<_, _≤_};
+ghost use mathlib.Core.Bool.{Bool};
+ghost use mathlib.Core.List.{List};
+ghost use Prim.Native.Nat.{ℕ, _<_};
 ghost use lib.ListN.{set};
-ghost use Rattle.rules.specs.Calls.{freshHub, newOf, registeredAt, registerOf, renameRefusal, renamedAt, renamesOf, renameOf};
-ghost use Rattle.rules.specs.Sheets.{sheetRefusal};
-ghost use Rattle.desk.specs.Laid.{laidHub};
+ghost use lib.Ieee.{Float};
+ghost use Rattle.rules.specs.Names.{padLimit};
+ghost use Rattle.rules.specs.Calls.{newOf, registerOf, renameRefusal, renameOf};
+ghost use Rattle.hub.specs.Lent.{Listed, Columns, listed, columns, hubOf, answered, registered};
+ghost use Rattle.hub.specs.Heads.{freshHead};
+ghost use Rattle.desk.specs.Heads.{registeredHead, renamedHead};
+use columns::Marks;
+use columns::QueueBytes;
+use columns::QueueCodes;
+use columns::Times;
+use columns::Values;
+use hub::AnsweredHead;
+use hub::Head;
+use hub::RegisteredHead;
 use rules::Answer;
-use rules::Answered;
-use rules::AxisData;
-use rules::ButtonData;
-use rules::Element;
+use rules::COUNT_AT;
 use rules::FLAGS_PER_PAD;
-use rules::Hub;
 use rules::NO_NAME;
 use rules::PADS;
 use rules::PLACES_PER_PAD;
 use rules::RegisterAnswer;
-use rules::Registered;
-use rules::Row;
-use rules::Slot;
+
+const HATS_AT: usize = 3;
 
 // ---- new
 
-// A hub with no pads, an empty queue and the counter at 0.
-fn fresh(pressed: f32, released: f32, reversed: bool, filters: bool, updates: bool) -> Hub
-    ensures { λ r. ⌜ r ≡ freshHub pressed released reversed filters updates ⌝ }
+// The head of a hub with no pads, an empty queue and the counter at 0.
+fn fresh(pressed: f32, released: f32, reversed: bool, filters: bool, updates: bool) -> Head
+    ensures { λ r. ⌜ r ≡ freshHead pressed released reversed filters updates ⌝ }
 {
-    let element = Element {
-        low: 0.0,
-        range: 0.0,
-        odd: false,
-        threshold: 0.0,
-    };
-    let button = ButtonData {
-        value: 0.0,
-        stamp: 0,
-        counter: 0,
-        pressed: false,
-        repeating: false,
-    };
-    let axis = AxisData {
-        value: 0.0,
-        stamp: 0,
-        counter: 0,
-    };
-    let slot = Slot {
-        kind: 0,
-        pad: 0,
-        name: 0,
-        code: 0,
-        value: 0.0,
-        time: 0,
-    };
-    Hub {
+    Head {
         pressed: pressed,
         released: released,
         reversed: reversed,
@@ -67,41 +51,52 @@ fn fresh(pressed: f32, released: f32, reversed: bool, filters: bool, updates: bo
         renamed: [false; 4],
         newhats: [0u8; 4],
         newconverts: [false; 4],
-        codes: [0u32; 208],
-        kinds: [0u8; 208],
-        names: [NO_NAME; 208],
-        renames: [NO_NAME; 208],
-        elements: [element; 209],
-        hasbutton: [false; 208],
-        buttons: [button; 209],
-        hasaxis: [false; 208],
-        axes: [axis; 209],
         flags: [false; 24],
-        queue: [slot; 64],
         head: 0,
         waiting: 0,
     }
 }
 
-// A fresh hub with its thresholds and flags; 1 for thresholds that are none.
+// A fresh hub with its thresholds and flags, whatever the arrays held; 1 for thresholds that are none.
 pub fn new_hub(
     pressed: f32,
     released: f32,
     reversed: bool,
     filters: bool,
     updates: bool,
-) -> Answered
-    ensures { λ r. ⌜ r ≡ newOf pressed released reversed filters updates ⌝ }
+    codes: &mut [u32; 208],
+    kinds: &mut [u8; 208],
+    names: &mut [u8; 208],
+    renames: &mut [u8; 208],
+    hasbutton: &mut [bool; 208],
+    hasaxis: &mut [bool; 208],
+    values: &mut Values,
+    times: &mut Times,
+    marks: &mut Marks,
+    queuebytes: &mut QueueBytes,
+    queuecodes: &mut QueueCodes,
+) -> AnsweredHead
+    ensures { λ r. ⌜ answered (r .head) (listed (now (codes .exit)) (now (kinds .exit)) (now (names .exit)) (now (renames .exit)))
+        (columns (now (hasbutton .exit)) (now (hasaxis .exit)) (now (values .exit)) (now (times .exit)) (now (marks .exit))
+        (now (queuebytes .exit)) (now (queuecodes .exit))) (r .answer)
+        ≡ newOf pressed released reversed filters updates ⌝ }
 {
+    *codes = [0u32; 208];
+    *kinds = [0u8; 208];
+    *names = [NO_NAME; 208];
+    *renames = [NO_NAME; 208];
+    *hasbutton = [false; 208];
+    *hasaxis = [false; 208];
+    columns::blank(values, times, marks, queuebytes, queuecodes);
     let number = refusals::thresholds_refusal(pressed, released);
     if 0 < number {
-        return Answered {
-            hub: fresh(1.0, 0.0, false, false, false),
+        return AnsweredHead {
+            head: fresh(1.0, 0.0, false, false, false),
             answer: Answer::Refused(number),
         };
     }
-    Answered {
-        hub: fresh(pressed, released, reversed, filters, updates),
+    AnsweredHead {
+        head: fresh(pressed, released, reversed, filters, updates),
         answer: Answer::Done,
     }
 }
@@ -124,117 +119,123 @@ fn set_pad(numbers: &mut [u8; 4], p: u8, v: u8)
     set_in(numbers, p as usize, v)
 }
 
-// The rows of a sheet in the places from `start` on.
-fn laid_out(h: Hub, start: usize, rows: [Row; 52]) -> Hub
-    requires { ⌜ start + 52 ≤ 208 ⌝ }
-    ensures { λ r. ⌜ r ≡ laidHub h start rows ⌝ }
+// The head with one pad more.
+fn with_pad(head: Head, p: u8, hats: u8, count: u8, converts: bool) -> Head
+    requires { ⌜ p < padLimit ⌝ }
+    ensures { λ r. ⌜ r ≡ registeredHead head p hats count converts ⌝ }
 {
-    let mut g = h;
-    let mut i: usize = 0;
-    while i < PLACES_PER_PAD {
-        let r = rows[i];
-        let place = start + i;
-        let element = r.element;
-        g.codes[place] = r.code;
-        g.kinds[place] = r.kind;
-        g.names[place] = r.name;
-        g.elements[place] = element;
-        i += 1;
-    }
-    g
-}
-
-// A good sheet becomes the next pad: its rows in the pad's places, its names and hats, and a fresh state.
-fn registered(h: Hub, p: u8, hats: u8, count: u8, rows: [Row; 52]) -> Hub
-    requires { ⌜ p < 4 ⌝ }
-    ensures { λ r. ⌜ r ≡ registeredAt h p hats count rows ⌝ }
-{
-    let start = PLACES_PER_PAD * choices::wide(p);
-    let mut g = laid_out(h, start, rows);
-    let converts = pad::converts(hats, &g.codes, &g.names, p);
-    g.pads = p + 1;
-    set_pad(&mut g.counts, p, count);
-    pad::mark_pad(&mut g.connected, p, true);
-    set_pad(&mut g.hats, p, hats);
-    pad::mark_pad(&mut g.converts, p, converts);
-    pad::mark_pad(&mut g.renamed, p, false);
-    pad::clear(&mut g.hasbutton, start, PLACES_PER_PAD);
-    pad::clear(&mut g.hasaxis, start, PLACES_PER_PAD);
+    let mut h = head;
+    h.pads = p + 1;
+    set_pad(&mut h.counts, p, count);
+    pad::mark_pad(&mut h.connected, p, true);
+    set_pad(&mut h.hats, p, hats);
+    pad::mark_pad(&mut h.converts, p, converts);
+    pad::mark_pad(&mut h.renamed, p, false);
     pad::clear_flags(
-        &mut g.flags,
+        &mut h.flags,
         FLAGS_PER_PAD * choices::wide(p),
         FLAGS_PER_PAD,
     );
-    g
+    h
 }
 
 // A pad from its sheet: the pad's number, or 2, 3, 4, 5 in this order.
-pub fn register(h: Hub, sheet: &[u8]) -> Registered
-    ensures { λ r. ⌜ r ≡ registerOf h (now (sheet .entry)) ⌝ }
+pub fn register(
+    head: Head,
+    codes: &mut [u32; 208],
+    kinds: &mut [u8; 208],
+    names: &mut [u8; 208],
+    hasbutton: &mut [bool; 208],
+    hasaxis: &mut [bool; 208],
+    values: &mut Values,
+    marks: &mut Marks,
+    sheet: &[u8],
+) -> RegisteredHead
+    ensures { λ r. ⌜ ((renames times queuebytes queuecodes : List ℕ) →
+        registered r (listed (now (codes .exit)) (now (kinds .exit)) (now (names .exit)) renames)
+        (columns (now (hasbutton .exit)) (now (hasaxis .exit)) (now (values .exit)) times (now (marks .exit)) queuebytes queuecodes)
+        ≡ registerOf (hubOf head (listed (now (codes .entry)) (now (kinds .entry)) (now (names .entry)) renames)
+        (columns (now (hasbutton .entry)) (now (hasaxis .entry)) (now (values .entry)) times (now (marks .entry)) queuebytes queuecodes))
+        (now (sheet .entry))) ⌝ }
 {
-    let p = h.pads;
+    let p = head.pads;
     if PADS <= p {
-        return Registered {
-            hub: h,
+        return RegisteredHead {
+            head: head,
             answer: RegisterAnswer::Refused(2),
         };
     }
     let number = sheets::sheet_refusal(sheet);
     if 0 < number {
-        return Registered {
-            hub: h,
+        return RegisteredHead {
+            head: head,
             answer: RegisterAnswer::Refused(number),
         };
     }
-    let rows = layout::lay(sheet);
-    Registered {
-        hub: registered(h, p, sheet[3], sheet[4], rows),
+    let hats = sheet[HATS_AT];
+    let count = sheet[COUNT_AT];
+    let start = PLACES_PER_PAD * choices::wide(p);
+    layout::lay_in(codes, kinds, names, values, marks, start, sheet);
+    pad::clear(hasbutton, start, PLACES_PER_PAD);
+    pad::clear(hasaxis, start, PLACES_PER_PAD);
+    let converts = pad::converts(hats, codes, names, p);
+    RegisteredHead {
+        head: with_pad(head, p, hats, count, converts),
         answer: RegisterAnswer::Pad(p),
     }
 }
 
 // ---- rename
 
-fn rename_refusal(h: Hub, p: u8, list: &[u8]) -> u8
-    ensures { λ r. ⌜ r ≡ renameRefusal h p (now (list .entry)) ⌝ }
+fn rename_refusal(head: Head, p: u8, list: &[u8]) -> u8
+    ensures { λ r. ⌜ ((s : Listed) (t : Columns) → r ≡ renameRefusal (hubOf head s t) p (now (list .entry))) ⌝ }
 {
     refusals::first(
-        refusals::unless_fits(refusals::is_registered(h.pads, p), 6),
+        refusals::unless_fits(refusals::is_registered(head.pads, p), 6),
         refusals::first(
-            refusals::unless_fits(pad::pad_bool(&h.connected, p), 7),
-            sheets::rename_list_refusal(list, pad::pad_number(&h.counts, p)),
+            refusals::unless_fits(pad::pad_bool(&head.connected, p), 7),
+            sheets::rename_list_refusal(list, pad::pad_number(&head.counts, p)),
         ),
     )
 }
 
-// The pad goes by other names, and its hats are 0.
-fn renamed_as(h: Hub, p: u8, renames: [u8; 208]) -> Hub
-    ensures { λ r. ⌜ r ≡ renamedAt h p renames ⌝ }
+// The head with a pad that goes by other names, and whose hats are 0.
+fn with_names(head: Head, p: u8, converts: bool) -> Head
+    ensures { λ r. ⌜ r ≡ renamedHead head p converts ⌝ }
 {
-    let mut g = h;
-    g.renames = renames;
-    let converts = pad::converts(0, &g.codes, &g.renames, p);
-    pad::mark_pad(&mut g.renamed, p, true);
-    set_pad(&mut g.newhats, p, 0);
-    pad::mark_pad(&mut g.newconverts, p, converts);
-    g
+    let mut h = head;
+    pad::mark_pad(&mut h.renamed, p, true);
+    set_pad(&mut h.newhats, p, 0);
+    pad::mark_pad(&mut h.newconverts, p, converts);
+    h
 }
 
 // New names for a pad's elements, one for each in code order: 6, 7, 3, 4, 5 in this order.
-pub fn rename(h: Hub, p: u8, list: &[u8]) -> Answered
-    ensures { λ r. ⌜ r ≡ renameOf h p (now (list .entry)) ⌝ }
+pub fn rename<'s>(
+    head: Head,
+    codes: &'s [u32; 208],
+    kinds: &'s [u8; 208],
+    renames: &mut [u8; 208],
+    p: u8,
+    list: &[u8],
+) -> AnsweredHead
+    ensures { λ r. ⌜ ((names times queuebytes queuecodes : List ℕ) (hasbutton hasaxis marks : List Bool) (values : List Float) →
+        answered (r .head) (listed (now (codes .entry)) (now (kinds .entry)) names (now (renames .exit)))
+        (columns hasbutton hasaxis values times marks queuebytes queuecodes) (r .answer)
+        ≡ renameOf (hubOf head (listed (now (codes .entry)) (now (kinds .entry)) names (now (renames .entry)))
+        (columns hasbutton hasaxis values times marks queuebytes queuecodes)) p (now (list .entry))) ⌝ }
 {
-    let number = rename_refusal(h, p, list);
+    let number = rename_refusal(head, p, list);
     if 0 < number {
-        return Answered {
-            hub: h,
+        return AnsweredHead {
+            head: head,
             answer: Answer::Refused(number),
         };
     }
-    let renames = h.renames;
-    let kinds = h.kinds;
-    Answered {
-        hub: renamed_as(h, p, layout::rename(renames, kinds, p, list)),
+    layout::rename_in(renames, kinds, p, list);
+    let converts = pad::converts(0, codes, renames, p);
+    AnsweredHead {
+        head: with_names(head, p, converts),
         answer: Answer::Done,
     }
 }

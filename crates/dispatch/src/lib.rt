@@ -55,6 +55,7 @@ fn double(e: Event, next: Event) -> Dispatched
 
 // ---- names: "unnamed elements are Unknown"
 
+// The name that an event of a button shows: a button's own, else Unknown.
 pub fn button_name(name: u8) -> u8
     ensures { λ r. ⌜ r ≡ law.buttonName name ⌝ }
 {
@@ -180,6 +181,7 @@ fn moved(
 
 // ---- every kind
 
+// What a taken record gives: gilrs's `next_event_priv`, with the value scaled and a trigger's press or release told by the thresholds.
 pub fn dispatch(
     r: RawRecord,
     name: u8,

@@ -102,6 +102,7 @@ fn dropped_type(t: EventType) -> bool
     }
 }
 
+// The number of an event's kind, in its bytes.
 pub fn kind_of(e: Event) -> u8
     ensures { λ r. ⌜ r ≡ kindOf e ⌝ }
 {
@@ -109,6 +110,7 @@ pub fn kind_of(e: Event) -> u8
     kind_type(t)
 }
 
+// An event's name; 0 where it has none.
 pub fn name_of(e: Event) -> u8
     ensures { λ r. ⌜ r ≡ nameOf e ⌝ }
 {
@@ -116,6 +118,7 @@ pub fn name_of(e: Event) -> u8
     name_type(t)
 }
 
+// An event's code; 0 where it has none.
 pub fn code_of(e: Event) -> u32
     ensures { λ r. ⌜ r ≡ codeOf e ⌝ }
 {
@@ -123,6 +126,7 @@ pub fn code_of(e: Event) -> u32
     code_type(t)
 }
 
+// An event's value; 0.0 where it has none.
 pub fn value_of(e: Event) -> f32
     ensures { λ r. ⌜ r ≡ valueOf e ⌝ }
 {
@@ -130,6 +134,7 @@ pub fn value_of(e: Event) -> f32
     value_type(t)
 }
 
+// Whether a filter dropped the event.
 pub fn is_dropped(e: Event) -> bool
     ensures { λ r. ⌜ r ≡ isDropped e ⌝ }
 {

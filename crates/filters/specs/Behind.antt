@@ -16,8 +16,8 @@ use Rattle.rules.specs.declared.Zoned.{Zoned}
 use Rattle.rules.specs.declared.Filtered.{Filtered}
 use Rattle.rules.specs.Places.{oneIf}
 use Rattle.rules.specs.Filters.{dpadOf, jitteredOf, deadzonedOf, joined, filteredOf}
-use Rattle.hats.specs.Counts.{dpad-few, dpad-four}
-use Rattle.hats.specs.Queued.{queuedAt, queued-is}
+use Rattle.filters.specs.Counts.{dpad-few, dpad-four}
+use Rattle.filters.specs.Queued.{queuedAt, queued-is}
 use Rattle.filters.specs.declared.Sent.{Sent}
 
 -- ---- what is sent

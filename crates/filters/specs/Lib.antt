@@ -1,2 +1,5 @@
+pub mod Converted
+pub mod Counts
+pub mod Queued
 pub mod Post
 pub mod Behind

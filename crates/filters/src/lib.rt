@@ -1,18 +1,17 @@
-// The filters in their order, dpad, jitter, deadzone, as decisions on what each sees of the hub: gilrs's `Jitter` and `deadzone`, after the crate
-// `hats`.
+// The filters in their order, dpad, jitter, deadzone (gilrs's ev/filter.rs), as decisions on small values: what each sees of the hub is a `View`, gathered before. A
+// dropped event is the event Dropped, as in gilrs.
+pub mod dpad;
+
 ghost use mathlib.Core.Path.{_≡_};
 ghost use mathlib.Core.Bool.{cond};
-ghost use Prim.Native.Nat.{_≤_};
 ghost use Rattle.numbers.specs.Constants.{zero32};
 ghost use Rattle.rules.specs.Filters as law;
-ghost use Rattle.filters.specs.Post.{Counted, Passed};
+ghost use Rattle.filters.specs.Post.{Counted};
 ghost use Rattle.filters.specs.Behind.{SentIs, behindOf};
 use numbers::Pair;
 use rules::Event;
 use rules::EventType;
-use rules::Filtered;
 use rules::Flags;
-use rules::Gives;
 use rules::View;
 use rules::Zoned;
 
@@ -26,7 +25,7 @@ pub fn jittered(v: View, e: Event) -> Event
     match t {
         EventType::Axis(_, _, x) => {
             if choices::both(v.stored, scale::jitters(x, v.stick)) {
-                return hats::dropped(e);
+                return dpad::dropped(e);
             }
             e
         }
@@ -60,9 +59,9 @@ fn unless(same: bool, e: Event, t: EventType) -> Event
     ensures { λ r. ⌜ r ≡ law.unless same e t ⌝ }
 {
     if same {
-        hats::dropped(e)
+        dpad::dropped(e)
     } else {
-        hats::with(e, t)
+        dpad::with(e, t)
     }
 }
 
@@ -105,7 +104,7 @@ fn stick(v: View, e: Event, n: u8, c: u32, pair: Pair) -> Zoned
     let same = v.own == x;
     let clears = clears_partner(v, pair);
     let sent = unless(same, e, EventType::Axis(n, c, x));
-    let clearing = hats::with(e, EventType::Axis(names::partner_of(n), p.code, 0.0));
+    let clearing = dpad::with(e, EventType::Axis(names::partner_of(n), p.code, 0.0));
     Zoned {
         event: sent,
         clears: clears,
@@ -156,47 +155,8 @@ fn one_if(b: bool) -> u8
     if b { 1 } else { 0 }
 }
 
-// what dpad queued, then the clearing event
-fn joined(g: Gives, z: Zoned) -> Filtered
-    requires { ⌜ g .count ≤ 3 ⌝ }
-    ensures { λ r. ⌜ r ≡ law.joined g z ⌝ }
-{
-    let mut queued = g.queued;
-    let at = g.count as usize;
-    let clearing = z.clearing;
-    queued[at] = clearing;
-    let sent = z.event;
-    let flags = z.flags;
-    Filtered {
-        gives: Gives {
-            event: sent,
-            count: g.count + one_if(z.clears),
-            queued: queued,
-        },
-        flags: flags,
-    }
-}
-
-// "The event then passes the filters, if on, in the order dpad, jitter, deadzone"
-pub fn filtered(on: bool, v: View, e: Event) -> Filtered
-    ensures { λ r. ⌜ Passed on v e r ⌝ }
-{
-    if on {
-        let g = hats::dpad(v, e);
-        let sent = g.event;
-        let z = deadzoned(v, jittered(v, sent));
-        return joined(g, z);
-    }
-    let flags = v.flags;
-    Filtered {
-        gives: hats::alone(e),
-        flags: flags,
-    }
-}
-
-// ---- the same with the queued events told one by one, so that none is made before it is pushed
-
-// what passes, how many events wait behind it, how many of them are a hat's, and the event that clears the partner
+// What passes, how many events wait behind it, how many of them are a hat's, and the event that clears the partner. The events that wait are told one by
+// one (`behind`), so that none is made before it is pushed.
 pub struct Sent {
     pub event: Event,
     pub count: u8,
@@ -205,11 +165,12 @@ pub struct Sent {
     pub flags: Flags,
 }
 
+// The event through the filters in their order, if they are on: what passes, and how many events wait behind it.
 pub fn through(on: bool, v: View, e: Event) -> Sent
     ensures { λ r. ⌜ SentIs on v e r ⌝ }
 {
     if on {
-        let g = hats::dpad(v, e);
+        let g = dpad::dpad(v, e);
         let turned = g.event;
         let z = deadzoned(v, jittered(v, turned));
         let zoned = z.event;
@@ -241,7 +202,7 @@ pub fn behind(next: Event, v: View, e: Event, s: Sent, at: usize) -> Event
         return next;
     }
     if at <= choices::wide(s.hats) {
-        return hats::queued(v, e, at - 1);
+        return dpad::queued(v, e, at - 1);
     }
     s.clearing
 }

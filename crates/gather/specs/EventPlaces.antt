@@ -15,7 +15,7 @@ use Rattle.rules.specs.Names.{nowhere, noName, isHat, partnerOf, positiveCode, 
 use Rattle.rules.specs.Sheets.{elementAxis}
 use Rattle.rules.specs.Places.{placeOf, namedOf, presentNames}
 use Rattle.rules.specs.State.{readPressed, readValue}
-use Rattle.rules.specs.Hub.{flagPlace, viewAt, viewOf, hatPlace, partnerPlace, convertsNow, pressedAt, valueAt, elementAt, buttonAt, axisAt}
+use Rattle.rules.specs.Hub.{flagPlace, viewAt, viewOf, hatPlaceOf, partnerPlaceOf, convertsIn, pressedAt, valueAt, elementAt, buttonAt, axisAt}
 use Rattle.pad.specs.Found.{Placed}
 use Rattle.gather.specs.declared.Found.{Found}
 use Rattle.gather.specs.declared.PlaceMarks.{PlaceMarks}
@@ -49,16 +49,6 @@ found-placed f = record { is = ap (λ (x : Found). x .place) (f .is); small = f 
 
 unfoldable pub placeMarksOf : List Bool → List Bool → ℕ → PlaceMarks
 placeMarksOf hasbutton hasaxis k = record { place = k; hasbutton = getD hasbutton k false; hasaxis = getD hasaxis k false }
-
-unfoldable pub hatPlaceOf : List ℕ → ℕ → ℕ → ℕ → ℕ
-hatPlaceOf codes p n c = cond (isHat n) (placeOf codes p c) nowhere
-
-unfoldable pub partnerPlaceOf : List ℕ → List ℕ → List Bool → ℕ → ℕ → ℕ
-partnerPlaceOf names renames renamed p n =
-    cond (eqb (partnerOf n) 0) nowhere (namedOf (presentNames names renames renamed p) p (partnerOf n))
-
-unfoldable pub convertsIn : List Bool → List Bool → List Bool → ℕ → Bool
-convertsIn renamed converts newconverts p = cond (getD renamed p false) (getD newconverts p false) (getD converts p false)
 
 -- the places found, own, of the two directions and of the partner, and what the columns say of them
 unfoldable pub eventPlacesAt : List ℕ → List ℕ → List Bool → List Bool → List Bool → List Bool → List Bool → List Bool → ℕ → ℕ → ℕ → ℕ → ℕ → ℕ → EventPlaces
@@ -152,5 +142,5 @@ viewBy s e b a plus minus pb pa =
 
 -- what is seen at the places found in a hub's columns is the hub's view
 pub view-is : (h : Hub) (p n c : ℕ) (s : EventPlaces) → EventPlacesAre (h .codes) (h .kinds) (h .names) (h .renames) (h .renamed) (h .converts) (h .newconverts) (h .hasbutton) (h .hasaxis) (h .flags) p n c s → viewBy s (elementAt h (s .own .place)) (buttonAt h (s .own .place)) (axisAt h (s .own .place)) (buttonAt h (s .positive .place)) (buttonAt h (s .negative .place)) (buttonAt h (s .partner .place)) (axisAt h (s .partner .place)) ≡ viewAt h p n (placeOf (h .codes) p c)
-unfolding viewBy eventPlacesAt placeMarksOf viewAt hatPlaceOf hatPlace partnerPlaceOf partnerPlace convertsIn convertsNow pressedAt valueAt
+unfolding viewBy eventPlacesAt placeMarksOf viewAt hatPlaceOf partnerPlaceOf convertsIn pressedAt valueAt
 view-is h p n c s seen = rw (seen .is)

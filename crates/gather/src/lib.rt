@@ -7,7 +7,8 @@ ghost use Rattle.rules.specs.Names.{noName};
 ghost use Rattle.rules.specs.Places.{presentNames, namedOf};
 ghost use Rattle.rules.specs.Hub.{flagPlace};
 ghost use Rattle.pad.specs.Found.{Placed};
-ghost use Rattle.gather.specs.EventPlaces.{FoundIs, EventPlacesAre, PlaceIs, placeMarksOf, hatPlaceOf, partnerPlaceOf, convertsIn, viewBy};
+ghost use Rattle.rules.specs.Hub.{hatPlaceOf, partnerPlaceOf, convertsIn};
+ghost use Rattle.gather.specs.EventPlaces.{FoundIs, EventPlacesAre, PlaceIs, placeMarksOf, viewBy};
 use rules::AxisData;
 use rules::ButtonData;
 use rules::ELEMENT_AXIS;
@@ -48,6 +49,7 @@ pub fn present_name<'a>(
     }
 }
 
+// What stands at a record's code.
 pub fn find<'a>(
     codes: &'a [u32; 208],
     kinds: &'a [u8; 208],
@@ -78,6 +80,7 @@ pub struct PlaceMarks {
     pub hasaxis: bool,
 }
 
+// Which records a place has.
 pub fn place_marks<'a>(
     hasbutton: &'a [bool; 208],
     hasaxis: &'a [bool; 208],

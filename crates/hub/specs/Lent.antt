@@ -4,6 +4,10 @@ use mathlib.Core.Bool.{Bool}
 use mathlib.Core.List.{List}
 use lib.Ieee.{Float}
 use Rattle.rules.specs.declared.Hub.{Hub}
+use Rattle.rules.specs.declared.Element.{Element}
+use Rattle.rules.specs.declared.ButtonData.{ButtonData}
+use Rattle.rules.specs.declared.AxisData.{AxisData}
+use Rattle.rules.specs.declared.Slot.{Slot}
 use Rattle.rules.specs.declared.Answer.{Answer}
 use Rattle.rules.specs.declared.Answered.{Answered}
 use Rattle.rules.specs.declared.Registered.{Registered}
@@ -50,8 +54,9 @@ columns hasbutton hasaxis values times marks queuebytes queuecodes =
 
 -- ---- the hub
 
-abbrev pub hubOf : Head → Listed → Columns → Hub
-hubOf d s t =
+-- of a head, of what the pads list, of the marks and of the records
+abbrev pub hubFrom : Head → Listed → List Bool → List Bool → List Element → List ButtonData → List AxisData → List Slot → Hub
+hubFrom d s hasbutton hasaxis elements buttons axes queue =
     record {
       pressed = d .pressed;
       released = d .released;
@@ -71,16 +76,21 @@ hubOf d s t =
       kinds = s .kinds;
       names = s .names;
       renames = s .renames;
-      elements = elementsOf (t .values) (t .marks);
-      hasbutton = t .hasbutton;
-      buttons = buttonsOf (t .values) (t .times) (t .marks);
-      hasaxis = t .hasaxis;
-      axes = axesOf (t .values) (t .times);
+      elements = elements;
+      hasbutton = hasbutton;
+      buttons = buttons;
+      hasaxis = hasaxis;
+      axes = axes;
       flags = d .flags;
-      queue = slotsOf (t .values) (t .times) (t .queuebytes) (t .queuecodes);
+      queue = queue;
       head = d .head;
       waiting = d .waiting;
     }
+
+abbrev pub hubOf : Head → Listed → Columns → Hub
+hubOf d s t =
+    hubFrom d s (t .hasbutton) (t .hasaxis) (elementsOf (t .values) (t .marks)) (buttonsOf (t .values) (t .times) (t .marks))
+    (axesOf (t .values) (t .times)) (slotsOf (t .values) (t .times) (t .queuebytes) (t .queuecodes))
 
 -- ---- what a call leaves: the hub, with its answer; and for a pump the out buffer
 

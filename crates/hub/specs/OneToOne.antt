@@ -7,31 +7,10 @@ use Rattle.rules.specs.Names.{queueRoom}
 use Rattle.columns.specs.Columns.{valuesLong, timesLong, marksLong, bytesLong}
 use Rattle.columns.specs.Packed.{packedValues, packedTimes, packedMarks, packedBytes, packedCodes, values-packed, times-packed, marks-packed, bytes-packed, codes-packed}
 use Rattle.hub.specs.declared.Head.{Head}
+use Rattle.hub.specs.Heads.{headIn}
 use Rattle.hub.specs.Lent.{Listed, Columns, hubOf}
 
--- the head, and the arrays, of a hub
-abbrev headIn : Hub → Head
-headIn h =
-    record {
-      pressed = h .pressed;
-      released = h .released;
-      reversed = h .reversed;
-      filters = h .filters;
-      updates = h .updates;
-      counter = h .counter;
-      pads = h .pads;
-      counts = h .counts;
-      connected = h .connected;
-      hats = h .hats;
-      converts = h .converts;
-      renamed = h .renamed;
-      newhats = h .newhats;
-      newconverts = h .newconverts;
-      flags = h .flags;
-      head = h .head;
-      waiting = h .waiting;
-    }
-
+-- the arrays of a hub
 abbrev listedIn : Hub → Listed
 listedIn h = record { codes = h .codes; kinds = h .kinds; names = h .names; renames = h .renames }
 

@@ -6,11 +6,9 @@ use mathlib.Core.Path.{_≡_, refl, subst}
 use native.Mathlib.Omega.{arith}
 use lib.Dec.{eqb, ltb, leb}
 use lib.ListN.{length}
-use lib.Signed.{ltZ}
-use borrow.Author.Tests.{eqb-true, leb-true, ltb-true, ltb-false, lt-ltb, ne-eqb}
-use Rattle.numbers.specs.Constants.{absent, withinOf, deadzoneWithinOf, deadzoneLimit}
+use borrow.Author.Tests.{eqb-true, leb-true, ltb-true, ltb-false, ne-eqb}
 use Rattle.rules.specs.declared.SheetElement.{SheetElement}
-use Rattle.rules.specs.Names.{elementLimit, lastDeadzone, nameAllowed}
+use Rattle.rules.specs.Names.{elementLimit, nameAllowed}
 use Rattle.rules.specs.Forms.{opens}
 use Rattle.rules.specs.Sheets.{sheetOpening, elementSize, elementButton, elementAxis, lastHats, nameOffset, elementOf, hatsOf, countOf, sheetFits, buttonFits, axisFits, elementFits, rises, elementsFit, occursTwice, sheetRefusal}
 
@@ -83,35 +81,7 @@ good s e =
       rising = λ i short. above s i (kept-at s (countOf s) 0 (parts .1) (i + 1) (omega arith) (omega arith) .1);
     }
 
--- ---- an axis element's limits
-
-pub record Limits (e : SheetElement) : Type 0 where
-  pub min : withinOf (e .min) ≡ true
-  pub max : withinOf (e .max) ≡ true
-  pub deadzone : deadzoneWithinOf (e .deadzone) ≡ true
-
-either-limit : (d : ℕ) (small none : Bool) → leb d lastDeadzone ≡ small → eqb d absent ≡ none → (small || none) ≡ true → deadzoneWithinOf d ≡ true
-unfolding deadzoneWithinOf
-either-limit d small true es en e = rw en
-either-limit d true false es en e =
-    let most = leb-true d lastDeadzone es in
-    let less : d < deadzoneLimit = omega arith in
-    rw (en, lt-ltb d deadzoneLimit less)
-either-limit d false false es en e = let z : _≡_ {A = ℕ} 0 1 = cc in absurd (omega arith)
-
-pub limits : (e : SheetElement) → axisFits e ≡ true → Limits e
-unfolding axisFits
-limits e fits =
-    let most = leb (e .deadzone) lastDeadzone || eqb (e .deadzone) absent in
-    let past-min = both-right (withinOf (e .min)) (withinOf (e .max) && (ltZ (e .min) (e .max) && most)) fits in
-    let past-max = both-right (withinOf (e .max)) (ltZ (e .min) (e .max) && most) past-min in
-    record {
-      min = both-left (withinOf (e .min)) (withinOf (e .max) && (ltZ (e .min) (e .max) && most)) fits;
-      max = both-left (withinOf (e .max)) (ltZ (e .min) (e .max) && most) past-min;
-      deadzone =
-          either-limit (e .deadzone) (leb (e .deadzone) lastDeadzone) (eqb (e .deadzone) absent) refl refl
-          (both-right (ltZ (e .min) (e .max)) most past-max);
-    }
+-- ---- an axis element
 
 -- an element that fits and is no button is an axis that fits
 pub axis-fits : (e : SheetElement) → elementFits e ≡ true → (e .kind ≡ elementButton → ⊥) → axisFits e ≡ true

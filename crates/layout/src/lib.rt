@@ -1,4 +1,5 @@
-// How registration lays a sheet out: the pad's 52 places in code order, the sheet's elements with the directions that it does not list merged in.
+// How registration lays a sheet out: a pad has 52 places in code order, one for each element and, merged in, one for each of the four directions that the sheet does
+// not list; places that are left over repeat the last code, so that codes never fall.
 use columns::Marks;
 use columns::Values;
 use rules::COUNT_AT;
@@ -89,7 +90,7 @@ fn unlisted_row(code: u32) -> Row
     }
 }
 
-// ---- the next place, with i of n elements and d of the four directions laid
+// ---- the next place: i of the sheet's n elements, and d of the four directions, have their places already
 
 // The i-th element's code.
 fn code_of(s: &[u8], i: u32) -> u32
@@ -99,7 +100,7 @@ fn code_of(s: &[u8], i: u32) -> u32
     wire::read4(s, SHEET_OPENING + ELEMENT_SIZE * i as usize)
 }
 
-// Whether it is the i-th element's.
+// Whether the next place is the i-th element's: there is one, and no direction's code lies below its code.
 fn element_next(s: &[u8], n: u32, i: u32, d: u32) -> bool
     requires { ⌜ length (now s) ≡ sheetOpening + elementSize * n ⌝ }
     ensures { λ r. ⌜ r ≡ elementNext (now (s .entry)) n i d ⌝ }
@@ -113,7 +114,7 @@ fn element_next(s: &[u8], n: u32, i: u32, d: u32) -> bool
     code_of(s, i) <= names::CODE_UP + d
 }
 
-// Whether it is the d-th direction's, listed or not.
+// Whether the next place's code is the d-th direction's, listed or not.
 fn direction_next(s: &[u8], n: u32, i: u32, d: u32) -> bool
     requires { ⌜ length (now s) ≡ sheetOpening + elementSize * n ⌝ }
     ensures { λ r. ⌜ r ≡ directionNext (now (s .entry)) n i d ⌝ }
@@ -149,6 +150,7 @@ fn one_if(b: bool) -> u32
 
 // ---- a pad's 52 places
 
+// The 52 rows of a good sheet: its elements in code order, the unlisted directions among them.
 pub fn lay(s: &[u8]) -> [Row; 52]
     requires { ⌜ sheetRefusal (now s) ≡ 0 ⌝ }
     ensures { λ r. ⌜ r ≡ rowsOf (now (s .entry)) (countOf (now (s .entry))) ⌝ }

@@ -140,24 +140,28 @@ pub fn flag_of(name: u8) -> u8
 
 // ---- the two directions of a hat's axis
 
+// The direction that a hat's axis presses above 0: Right, Up.
 pub fn positive_name(axis: u8) -> u8
     ensures { λ r. ⌜ r ≡ positiveName axis ⌝ }
 {
     if axis == DPAD_X { DPAD_RIGHT } else { DPAD_UP }
 }
 
+// The direction that it presses below 0: Left, Down.
 pub fn negative_name(axis: u8) -> u8
     ensures { λ r. ⌜ r ≡ negativeName axis ⌝ }
 {
     if axis == DPAD_X { DPAD_LEFT } else { DPAD_DOWN }
 }
 
+// The code of that direction, for a hat's axis.
 pub fn positive_code(axis: u8) -> u32
     ensures { λ r. ⌜ r ≡ positiveCode axis ⌝ }
 {
     if axis == DPAD_X { CODE_RIGHT } else { CODE_UP }
 }
 
+// The code of the direction below 0.
 pub fn negative_code(axis: u8) -> u32
     ensures { λ r. ⌜ r ≡ negativeCode axis ⌝ }
 {

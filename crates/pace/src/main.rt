@@ -213,7 +213,7 @@ fn paced(course: &[u8], out: &mut [u8]) -> Counts {
     let mut marks = [false; 627];
     let mut queuebytes = [0u8; 192];
     let mut queuecodes = [0u32; 64];
-    let new = desk_lent::new_hub(
+    let new = desk::new_hub(
         s.pressed,
         s.released,
         s.reversed,

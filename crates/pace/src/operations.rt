@@ -78,7 +78,7 @@ fn registered(
     sheet: &[u8],
     c: Counts,
 ) -> Played {
-    let r = desk_lent::register(
+    let r = desk::register(
         head,
         codes,
         kinds,
@@ -120,7 +120,7 @@ fn pumped<'s>(
     let place = wire::read4(payload, 0) as usize;
     let size = least(wire::read4(payload, 4) as usize, out.len());
     let allowance = wire::read2(payload, 8);
-    let r = pump_lent::pump(
+    let r = pump::pump(
         head,
         codes,
         kinds,
@@ -159,7 +159,7 @@ fn asked(
     if payload.len() != QUERY_SIZE {
         return counts::refused(c);
     }
-    let answer = queries_lent::is_pressed_by_code(
+    let answer = queries::is_pressed_by_code(
         head,
         codes,
         hasbutton,
@@ -232,7 +232,7 @@ pub fn operation(
         );
     }
     if opcode == UPDATE {
-        let answer = calls_lent::update(
+        let answer = calls::update(
             head,
             codes,
             hasbutton,
@@ -248,15 +248,7 @@ pub fn operation(
         };
     }
     if opcode == INSERT {
-        let r = calls_lent::insert_event(
-            head,
-            codes,
-            values,
-            times,
-            queuebytes,
-            queuecodes,
-            payload,
-        );
+        let r = calls::insert_event(head, codes, values, times, queuebytes, queuecodes, payload);
         return answered(r, c);
     }
     refused(head, c)

@@ -127,7 +127,7 @@ pub fn named(names: &[u8; 208], pad: u8, name: u8) -> usize
 
 // ---- columns read at any index
 
-// Behind a part of a known length stands the whole column: these serve each length.
+// Columns are arrays of 208, 24 or 4. Each is lent on as a slice to one of these, so that a column of any length is read and marked by one proof.
 
 fn bool_in(marks: &[bool], at: usize) -> bool
     ensures { λ r. ⌜ r ≡ getD (now (marks .entry)) at false ⌝ }
@@ -147,42 +147,49 @@ fn code_in(codes: &[u32], at: usize) -> u32
     if at < codes.len() { codes[at] } else { 0 }
 }
 
+// The mark of a place; false past the end.
 pub fn bool_at(marks: &[bool; 208], place: usize) -> bool
     ensures { λ r. ⌜ r ≡ getD (now (marks .entry)) place false ⌝ }
 {
     bool_in(marks, place)
 }
 
+// The kind of the element at a place; 0 where the sheet lists none.
 pub fn kind_at(kinds: &[u8; 208], place: usize) -> u8
     ensures { λ r. ⌜ r ≡ getD (now (kinds .entry)) place 0 ⌝ }
 {
     byte_in(kinds, place, 0)
 }
 
+// The name of a place; `NO_NAME` where it has none.
 pub fn name_at(names: &[u8; 208], place: usize) -> u8
     ensures { λ r. ⌜ r ≡ getD (now (names .entry)) place noName ⌝ }
 {
     byte_in(names, place, NO_NAME)
 }
 
+// The code of a place; 0 past the end.
 pub fn code_at(codes: &[u32; 208], place: usize) -> u32
     ensures { λ r. ⌜ r ≡ getD (now (codes .entry)) place 0 ⌝ }
 {
     code_in(codes, place)
 }
 
+// A deadzone flag; false past the end.
 pub fn flag_at(flags: &[bool; 24], at: usize) -> bool
     ensures { λ r. ⌜ r ≡ getD (now (flags .entry)) at false ⌝ }
 {
     bool_in(flags, at)
 }
 
+// A pad's mark; false for a pad that is none.
 pub fn pad_bool(marks: &[bool; 4], pad: u8) -> bool
     ensures { λ r. ⌜ r ≡ getD (now (marks .entry)) pad false ⌝ }
 {
     bool_in(marks, pad as usize)
 }
 
+// A pad's number; 0 for a pad that is none.
 pub fn pad_number(numbers: &[u8; 4], pad: u8) -> u8
     ensures { λ r. ⌜ r ≡ getD (now (numbers .entry)) pad 0 ⌝ }
 {
@@ -199,18 +206,21 @@ fn mark_in(marks: &mut [bool], at: usize, v: bool)
     }
 }
 
+// Sets the mark of a place; past the end nothing changes.
 pub fn mark(marks: &mut [bool; 208], place: usize, v: bool)
     ensures { λ r. ⌜ now (marks .exit) ≡ set (now (marks .entry)) place v ⌝ }
 {
     mark_in(marks, place, v)
 }
 
+// Sets a deadzone flag; past the end nothing changes.
 pub fn mark_flag(flags: &mut [bool; 24], at: usize, v: bool)
     ensures { λ r. ⌜ now (flags .exit) ≡ set (now (flags .entry)) at v ⌝ }
 {
     mark_in(flags, at, v)
 }
 
+// Sets a pad's mark; past the end nothing changes.
 pub fn mark_pad(marks: &mut [bool; 4], pad: u8, v: bool)
     ensures { λ r. ⌜ now (marks .exit) ≡ set (now (marks .entry)) pad v ⌝ }
 {
@@ -233,12 +243,14 @@ fn clear_in(marks: &mut [bool], start: usize, n: usize)
     }
 }
 
+// Takes n marks off from a place on.
 pub fn clear(marks: &mut [bool; 208], start: usize, n: usize)
     ensures { λ r. ⌜ now (marks .exit) ≡ clearedOf (now (marks .entry)) start n ⌝ }
 {
     clear_in(marks, start, n)
 }
 
+// Takes n deadzone flags down from one on.
 pub fn clear_flags(flags: &mut [bool; 24], start: usize, n: usize)
     ensures { λ r. ⌜ now (flags .exit) ≡ clearedOf (now (flags .entry)) start n ⌝ }
 {
@@ -269,6 +281,7 @@ fn direction_named<'a>(codes: &'a [u32; 208], names: &'a [u8; 208], pad: u8) -> 
     code_named(codes, names, pad, names::CODE_UP)
 }
 
+// Whether a pad's hats turn into directions: hats say all four, or say none and no direction is named.
 pub fn converts<'a>(hats: u8, codes: &'a [u32; 208], names: &'a [u8; 208], pad: u8) -> bool
     ensures { λ r. ⌜ r ≡ convertsOf hats (now (codes .entry)) (now (names .entry)) pad ⌝ }
 {

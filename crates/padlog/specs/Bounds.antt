@@ -9,8 +9,8 @@ use lib.ListN.{length}
 use Rattle.rules.specs.declared.Hub.{Hub}
 use Rattle.rules.specs.Forms.{eventSize}
 use Rattle.rules.specs.Pump.{Progress, Run, Verdict, going, stopping, refusing, stepped, steppedBy, endedBy, startOf, pumpOf}
-use Rattle.promises.specs.Runs.{Goes, Stop, drains, fills, pauses, Stops, pump-ends}
-use Rattle.promises.specs.Room.{Stays, start-stays, step-stays}
+use Rattle.theory_calls.specs.Runs.{Goes, Stop, drains, fills, pauses, Stops, pump-ends}
+use Rattle.theory_calls.specs.Room.{Stays, start-stays, step-stays}
 use Rattle.padlog.specs.Log.{goesOn, tallied}
 
 pub record Bounded (r : Run) (out : List ℕ) (allowed : ℕ) : Type 0 where

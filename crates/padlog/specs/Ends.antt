@@ -22,12 +22,12 @@ use Rattle.rules.specs.Forms.{recordSize, eventSize}
 use Rattle.rules.specs.Refusals.{thresholdsRefusal, pumpRefusal}
 use Rattle.rules.specs.Pump.{Run, pumpOf}
 use Rattle.rules.specs.Calls.{newOf, registerOf}
-use Rattle.promises.specs.Machines.{placeSaid, eventsSaid, stepsSaid}
-use Rattle.promises.specs.Room.{pump-stays}
-use Rattle.history.specs.Rule.{recordsFrom}
-use Rattle.history.specs.Played.{Played, fresh, register}
-use Rattle.history.specs.Handed.{Still, none-still, register-still}
-use Rattle.history.specs.Pumps.{mostHanded, pump-counts}
+use Rattle.theory_calls.specs.Machines.{placeSaid, eventsSaid, stepsSaid}
+use Rattle.theory_calls.specs.Room.{pump-stays}
+use Rattle.theory_history.specs.Rule.{recordsFrom}
+use Rattle.theory_history.specs.Played.{Played, fresh, register}
+use Rattle.theory_history.specs.Handed.{Still, none-still, register-still}
+use Rattle.theory_history.specs.Pumps.{mostHanded, pump-counts}
 use Rattle.lines.specs.Text.{linesOf, drainedLine, stoppedLine, sheetLine}
 use Rattle.padlog.specs.declared.Tally.{Tally}
 use Rattle.padlog.specs.Log.{sheetEnd, goesOn, drained, tallyOf, lastLine, allowance, pumpAll, tallied, printed, roundsOf, rounds, deskHub, logBy, logOf}

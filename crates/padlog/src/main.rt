@@ -126,7 +126,7 @@ fn pump_all<'s>(
     let mut at: usize = 0;
     let mut left = ROUNDS;
     while 0 < left {
-        let pumped = pump_lent::pump(
+        let pumped = pump::pump(
             h,
             codes,
             kinds,
@@ -174,7 +174,7 @@ fn log(input: &[u8], out: &mut [u8; 16384], text: &mut [u8; 559538]) -> usize
     let mut marks = [false; 627];
     let mut queuebytes = [0u8; 192];
     let mut queuecodes = [0u32; 64];
-    let opened = desk_lent::new_hub(
+    let opened = desk::new_hub(
         0.75,
         0.5,
         false,
@@ -194,7 +194,7 @@ fn log(input: &[u8], out: &mut [u8; 16384], text: &mut [u8; 559538]) -> usize
     );
     let fresh = opened.head;
     let end = sheet_end(input);
-    let registered = desk_lent::register(
+    let registered = desk::register(
         fresh,
         &mut codes,
         &mut kinds,

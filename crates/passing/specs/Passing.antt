@@ -25,7 +25,9 @@ use Rattle.rules.specs.Sheets.{elementAxis}
 use Rattle.rules.specs.Forms.{kindConnected, kindDisconnected}
 use Rattle.rules.specs.Events.{nameOf, codeOf}
 use Rattle.rules.specs.Filters.{filteredOf, unfiltered, dpadOf, jitteredOf, deadzonedOf, joined, dpadType, jitterType, deadzoneType}
-use Rattle.rules.specs.Hub.{viewAt, viewOf, hatPlace, partnerPlace, convertsNow, pressedAt, valueAt, flagPlace}
+use Rattle.rules.specs.Hub.{viewAt, viewOf, hatPlaceOf, partnerPlaceOf, convertsIn, pressedAt, valueAt, flagPlace}
+use Rattle.rules.specs.Setters.{withSheet, withRows, withNames, withMarks, withState, withFlags}
+use Rattle.rules.specs.Calls.{idleHub}
 use Rattle.rules.specs.Step.{connectedAfter, renamedAfter, marksCleared, flagsSet, filteredIn}
 use Rattle.gather.specs.declared.EventPlaces.{EventPlaces}
 use Rattle.gather.specs.EventPlaces.{EventPlacesAre, eventPlacesAt}
@@ -72,35 +74,8 @@ concernsOf e dead = concernsType (e .event) dead
 abbrev pub seenHub :
     List ℕ → List ℕ → List ℕ → List ℕ → List Bool → List Bool → List Bool → List Bool → List Bool → List Element → List ButtonData → List AxisData → List Bool → Hub
 seenHub codes kinds names renames renamed converts newconverts hasbutton hasaxis elements buttons axes flags =
-    record {
-      pressed = zero32;
-      released = zero32;
-      reversed = false;
-      filters = false;
-      updates = false;
-      counter = 0;
-      pads = 0;
-      counts = [];
-      connected = [];
-      hats = [];
-      converts = converts;
-      renamed = renamed;
-      newhats = [];
-      newconverts = newconverts;
-      codes = codes;
-      kinds = kinds;
-      names = names;
-      renames = renames;
-      elements = elements;
-      hasbutton = hasbutton;
-      buttons = buttons;
-      hasaxis = hasaxis;
-      axes = axes;
-      flags = flags;
-      queue = [];
-      head = 0;
-      waiting = 0;
-    }
+    let listed = withRows (withNames (withSheet idleHub 0 [] [] converts) [] newconverts renames) codes kinds names elements in
+    withFlags (withState (withMarks listed [] renamed) hasbutton buttons hasaxis axes) flags
 
 -- a hub, blank but for what its view is made of: the filters make the same of an event
 abbrev pub seenOf : Hub → Hub
@@ -109,7 +84,7 @@ seenOf m =
     (m .axes) (m .flags)
 
 pub seen-same : (m : Hub) (e : Event) → filteredOf (m .filters) (viewOf (seenOf m) e) e ≡ filteredIn m e
-unfolding filteredIn viewOf viewAt hatPlace partnerPlace convertsNow pressedAt valueAt
+unfolding filteredIn viewOf viewAt hatPlaceOf partnerPlaceOf convertsIn pressedAt valueAt
 seen-same m e = refl
 
 -- an event that no filter looks at passes as it is

@@ -21,6 +21,7 @@ use Rattle.rules.specs.Hub.{viewOf, pastElement, pastButton, pastAxis}
 use Rattle.rules.specs.Step.{pushesOf, flagsSet, pushedOf, filteredIn, filteredHub}
 use Rattle.columns.specs.Columns.{elementsOf, buttonsOf, axesOf}
 use Rattle.hub.specs.declared.Head.{Head}
+use Rattle.hub.specs.Heads.{headFlags, headQueue}
 use Rattle.hub.specs.Lent.{Listed, columns, hubOf}
 use Rattle.gather.specs.declared.EventPlaces.{EventPlaces}
 use Rattle.gather.specs.EventPlaces.{viewBy, view-is}
@@ -126,26 +127,7 @@ serves-seen on m d ms {name} {code} {s} {v} {f} {both = both} {vs} {vs1} {vs2} {
 
 -- a head with other flags, and another number waiting
 abbrev pub servedHead : Head → List Bool → ℕ → Head
-servedHead h flags waiting =
-    record {
-      pressed = h .pressed;
-      released = h .released;
-      reversed = h .reversed;
-      filters = h .filters;
-      updates = h .updates;
-      counter = h .counter;
-      pads = h .pads;
-      counts = h .counts;
-      connected = h .connected;
-      hats = h .hats;
-      converts = h .converts;
-      renamed = h .renamed;
-      newhats = h .newhats;
-      newconverts = h .newconverts;
-      flags = flags;
-      head = h .head;
-      waiting = waiting;
-    }
+servedHead h flags waiting = headQueue (headFlags h flags) (h .head) waiting
 
 -- what is left of a served event, as the hub that head and arrays stand for has it: m is that hub
 abbrev pub ServedIn :

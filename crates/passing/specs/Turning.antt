@@ -5,8 +5,9 @@ use mathlib.Core.Bool.{Bool}
 use mathlib.Core.List.{List}
 use Rattle.rules.specs.declared.Hub.{Hub}
 use Rattle.rules.specs.declared.Event.{Event}
+use Rattle.rules.specs.Setters.{withMarks, withState, withFlags, withQueue}
 use Rattle.rules.specs.Step.{nextRecordOf, filteredIn, filteredHub}
-use Rattle.steps.specs.Turns.{marked-is, Turned, turned}
+use Rattle.pump_laws.specs.Turns.{marked-is, Turned, turned}
 use Rattle.taking.specs.declared.Taken.{Taken}
 use Rattle.taking.specs.Taking.{GivenIs, givesOf}
 use Rattle.passing.specs.Passing.{MarkedIs}
@@ -14,35 +15,7 @@ use Rattle.passing.specs.Passing.{MarkedIs}
 -- a hub with other marks, and another front and length of the queue
 abbrev pub markedHub : Hub → List Bool → List Bool → List Bool → List Bool → List Bool → ℕ → ℕ → Hub
 markedHub h connected renamed hasbutton hasaxis flags head waiting =
-    record {
-      pressed = h .pressed;
-      released = h .released;
-      reversed = h .reversed;
-      filters = h .filters;
-      updates = h .updates;
-      counter = h .counter;
-      pads = h .pads;
-      counts = h .counts;
-      connected = connected;
-      hats = h .hats;
-      converts = h .converts;
-      renamed = renamed;
-      newhats = h .newhats;
-      newconverts = h .newconverts;
-      codes = h .codes;
-      kinds = h .kinds;
-      names = h .names;
-      renames = h .renames;
-      elements = h .elements;
-      hasbutton = hasbutton;
-      buttons = h .buttons;
-      hasaxis = hasaxis;
-      axes = h .axes;
-      flags = flags;
-      queue = h .queue;
-      head = head;
-      waiting = waiting;
-    }
+    withQueue (withFlags (withState (withMarks h connected renamed) hasbutton (h .buttons) hasaxis (h .axes)) flags) (h .queue) head waiting
 
 pub turn-served :
     (h : Hub) (s : List ℕ) (at : ℕ) {t : Taken} {connected renamed hasbutton hasaxis flags : List Bool} {u : Hub} {z : Event} →

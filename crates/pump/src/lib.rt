@@ -1,32 +1,97 @@
-// Document 01's pump: gilrs's `next_event_inner` as a loop that ends at a stop, an allowance of steps, and events written as bytes.
+// Document 01's pump on a hub that is lent: the head goes in and comes back by value, each array is lent by itself and changed where it stands, so that no call
+// copies the hub. A turn of the loop takes an event, makes a record's marks, and serves the event, each in one call that is lent the arrays; a kept event is
+// settled in the state and written. The contract is the equation of the pump that takes the hub by value, at the hub that head and arrays stand for.
 ghost use mathlib.Core.Path.{_≡_};
 ghost use Rattle.rules.specs.Pump.{pumpOf};
-ghost use Rattle.steps.specs.Runs.{leaves};
+ghost use Rattle.hub.specs.Lent.{listed, columns, hubOf, pumped};
+ghost use Rattle.pump.specs.Stepped.{steppedHead};
+use columns::Marks;
+use columns::QueueBytes;
+use columns::QueueCodes;
+use columns::Times;
+use columns::Values;
+use hub::Head;
+use hub::PumpedHead;
 use rules::EVENT_SIZE;
-use rules::FLAGS_PER_PAD;
-use rules::Hub;
-use rules::PLACES_PER_PAD;
 use rules::PumpAnswer;
-use rules::Pumped;
 
-pub fn pump(hub: Hub, batch: &[u8], place: usize, out: &mut [u8], allowance: u16) -> Pumped
-    ensures { λ r. ⌜ leaves r (now (out .exit)) ≡ pumpOf hub (now (batch .entry)) place (now (out .entry)) allowance ⌝ }
+// No pad has this number.
+const NO_PAD: u8 = 4;
+
+// The head after some steps: its settings stay.
+fn stepped(
+    head: Head,
+    connected: [bool; 4],
+    renamed: [bool; 4],
+    flags: [bool; 24],
+    front: u8,
+    waiting: u8,
+) -> Head
+    ensures { λ r. ⌜ r ≡ steppedHead head connected renamed flags front waiting ⌝ }
 {
-    let mut h = hub;
+    let mut h = head;
+    h.connected = connected;
+    h.renamed = renamed;
+    h.flags = flags;
+    h.head = front;
+    h.waiting = waiting;
+    h
+}
+
+pub fn pump<'s>(
+    head: Head,
+    codes: &'s [u32; 208],
+    kinds: &'s [u8; 208],
+    names: &'s [u8; 208],
+    renames: &'s [u8; 208],
+    hasbutton: &mut [bool; 208],
+    hasaxis: &mut [bool; 208],
+    values: &mut Values,
+    times: &mut Times,
+    marks: &mut Marks,
+    queuebytes: &mut QueueBytes,
+    queuecodes: &mut QueueCodes,
+    batch: &[u8],
+    place: usize,
+    out: &mut [u8],
+    allowance: u16,
+) -> PumpedHead
+    ensures { λ r. ⌜ pumped r (listed (now (codes .entry)) (now (kinds .entry)) (now (names .entry)) (now (renames .entry)))
+        (columns (now (hasbutton .exit)) (now (hasaxis .exit)) (now (values .exit)) (now (times .exit)) (now (marks .exit))
+        (now (queuebytes .exit)) (now (queuecodes .exit)))
+        (now (out .exit))
+        ≡ pumpOf (hubOf head (listed (now (codes .entry)) (now (kinds .entry)) (now (names .entry)) (now (renames .entry)))
+        (columns (now (hasbutton .entry)) (now (hasaxis .entry)) (now (values .entry)) (now (times .entry)) (now (marks .entry))
+        (now (queuebytes .entry)) (now (queuecodes .entry))))
+        (now (batch .entry)) place (now (out .entry)) allowance ⌝ }
+{
+    let settings = head;
     let refused = refusals::pump_refusal(batch.len(), out.len(), place);
     if 0 < refused {
-        return Pumped {
-            hub: h,
+        return PumpedHead {
+            head: settings,
             answer: PumpAnswer::Refused(refused, place, 0, 0),
         };
     }
+    // what steps change of the head
+    let mut connected = settings.connected;
+    let mut renamed = settings.renamed;
+    let mut flags = settings.flags;
+    let mut front = settings.head;
+    let mut waiting = settings.waiting;
+    // lent on by itself, so that the head's other fields need not stand in memory
+    let converts = settings.converts;
+    let newconverts = settings.newconverts;
     let mut at = place;
     let mut events: usize = 0;
     let mut steps: usize = 0;
     let mut left = allowance as usize;
+    // the place that was looked up last
+    let mut lastpad: u8 = NO_PAD;
+    let mut lastcode: u32 = 0;
+    let mut last = pad::place_of(codes, lastpad, lastcode);
     loop {
-        let ev = loop {
-            let waiting = h.waiting;
+        let kept = loop {
             let why = turn::stop(
                 waiting,
                 batch.len() - at,
@@ -34,132 +99,102 @@ pub fn pump(hub: Hub, batch: &[u8], place: usize, out: &mut [u8], allowance: u16
                 left,
             );
             if 0 < why {
-                return Pumped {
-                    hub: h,
+                return PumpedHead {
+                    head: stepped(settings, connected, renamed, flags, front, waiting),
                     answer: turn::stop_answer(why, at, events, steps),
                 };
             }
-            // gather: the record, unless something waits, and what its code meets
-            let l = wire::next_record(batch, at, waiting);
-            let raw = l.raw;
-            let found = gather::find(
-                &h.codes,
-                &h.kinds,
-                &h.names,
-                &h.renames,
-                &h.renamed,
-                &h.hasbutton,
-                raw.pad,
-                raw.code,
+            // gather and decide: what is taken
+            let taken = taking::take(
+                codes,
+                kinds,
+                names,
+                renames,
+                &renamed,
+                hasbutton,
+                values,
+                times,
+                marks,
+                queuebytes,
+                queuecodes,
+                batch,
+                at,
+                waiting,
+                front,
+                settings.pads,
+                settings.pressed,
+                settings.released,
+                settings.reversed,
+                lastpad,
+                lastcode,
+                last,
             );
-            let number = turn::refusal(waiting, l, h.pads, found.kind);
-            if 0 < number {
-                return Pumped {
-                    hub: h,
-                    answer: PumpAnswer::Refused(number, at, events, steps),
+            if 0 < taken.number {
+                return PumpedHead {
+                    head: stepped(settings, connected, renamed, flags, front, waiting),
+                    answer: PumpAnswer::Refused(taken.number, at, events, steps),
                 };
             }
-            let k = found.place;
-            let element = h.elements[k];
-            let b = h.buttons[k];
-            let front = turn::front(h.head);
-            let slot = h.queue[front];
-            // decide: what is taken
-            let d = turn::take(
-                waiting,
-                slot,
-                raw,
-                found,
-                element,
-                b,
-                h.pressed,
-                h.released,
-                h.reversed,
-            );
             // commit: the marks of a taken record, the ring, the place
-            let p = choices::wide(raw.pad);
-            let marks = turn::marks_cleared(raw.kind, PLACES_PER_PAD);
-            let flags = turn::marks_cleared(raw.kind, FLAGS_PER_PAD);
-            turn::connect(&mut h.connected, raw.pad, raw.kind);
-            turn::forget(&mut h.renamed, raw.pad, raw.kind);
-            pad::clear(&mut h.hasbutton, PLACES_PER_PAD * p, marks);
-            pad::clear(&mut h.hasaxis, PLACES_PER_PAD * p, marks);
-            pad::clear_flags(&mut h.flags, FLAGS_PER_PAD * p, flags);
-            h.head = turn::head_after(h.head, waiting);
-            h.waiting = turn::fewer(waiting);
-            at = turn::place_after(waiting, at);
+            passing::mark_joins(
+                &mut connected,
+                &mut renamed,
+                hasbutton,
+                hasaxis,
+                &mut flags,
+                taken.pad,
+                taken.kind,
+            );
+            at = taken.at;
+            front = taken.head;
             left = left - 1;
             steps = steps + 1;
-            // gather: what the filters see of the event
-            let e = d.event;
-            let s = gather::event_places(
-                &h.codes,
-                &h.kinds,
-                &h.names,
-                &h.renames,
-                &h.renamed,
-                &h.converts,
-                &h.newconverts,
-                &h.hasbutton,
-                &h.hasaxis,
-                &h.flags,
-                e.pad,
-                events::name_of(e),
-                events::code_of(e),
-                raw.pad,
-                raw.code,
-                k,
+            let event = taken.event;
+            lastpad = event.pad;
+            lastcode = events::code_of(event);
+            last = taken.place;
+            // what the filters make of the event; commit: flags and queue
+            let served = passing::serve(
+                codes,
+                kinds,
+                names,
+                renames,
+                &renamed,
+                &converts,
+                &newconverts,
+                hasbutton,
+                hasaxis,
+                values,
+                times,
+                marks,
+                queuebytes,
+                queuecodes,
+                &mut flags,
+                settings.filters,
+                taken,
             );
-            let own = s.own;
-            let plus = s.positive;
-            let minus = s.negative;
-            let other = s.partner;
-            let o = own.place;
-            let i = plus.place;
-            let j = minus.place;
-            let q = other.place;
-            let v = gather::view_of(
-                s,
-                h.elements[o],
-                h.buttons[o],
-                h.axes[o],
-                h.buttons[i],
-                h.buttons[j],
-                h.buttons[q],
-                h.axes[q],
-            );
-            // decide: what the filters make of it; commit: flags and queue
-            let f = filters::through(h.filters, v, e);
-            let m = f.flags;
-            pad::mark_flag(&mut h.flags, s.flag, m.own);
-            pad::mark_flag(&mut h.flags, s.other, m.partner);
-            let next = d.next;
-            let mut x = turn::first_pushed(d.follows);
-            let end = choices::wide(f.count) + 1;
-            while x < end {
-                let u = filters::behind(next, v, e, f, x);
-                let free = turn::free(h.head, h.waiting);
-                h.queue[free] = events::slot_of(u);
-                h.waiting = turn::longer(h.waiting);
-                x = x + 1;
-            }
-            let z = f.event;
-            if events::kept(h.filters, z) {
-                break z;
+            waiting = served.waiting;
+            let sent = served.event;
+            if events::kept(settings.filters, sent) {
+                break sent;
             }
         };
         // commit: the state, and the event's bytes
-        let k = pad::place_of(&h.codes, ev.pad, events::code_of(ev));
-        let on = h.updates;
-        let hasbutton = pad::bool_at(&h.hasbutton, k);
-        let hasaxis = pad::bool_at(&h.hasaxis, k);
-        h.buttons[k] = turn::button_written(on, ev, hasbutton, h.buttons[k], h.counter);
-        h.axes[k] = turn::axis_written(on, ev, h.axes[k], h.counter);
-        let pressed = turn::known_after(hasbutton, on, state::writes_button(ev));
-        let placed = turn::known_after(hasaxis, on, state::writes_axis(ev));
-        pad::mark(&mut h.hasbutton, k, pressed);
-        pad::mark(&mut h.hasaxis, k, placed);
-        wire::write_event(&mut out[EVENT_SIZE * events..], ev);
+        cells::settle(
+            codes,
+            hasbutton,
+            hasaxis,
+            values,
+            times,
+            marks,
+            settings.updates,
+            kept,
+            settings.counter,
+            lastpad,
+            lastcode,
+            last,
+        );
+        wire::write_event(&mut out[EVENT_SIZE * events..], kept);
         events = events + 1;
     }
 }

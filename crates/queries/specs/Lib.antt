@@ -1,2 +1,1 @@
-pub mod Button
 pub mod Refused

@@ -13,6 +13,7 @@ use Rattle.rules.specs.Calls.{insertedAt}
 use Rattle.columns.specs.Columns.{elementsOf, buttonsOf, axesOf, slotsOf}
 use Rattle.columns.specs.Stores.{SlotPut}
 use Rattle.hub.specs.declared.Head.{Head}
+use Rattle.hub.specs.Heads.{headQueue}
 use Rattle.hub.specs.Lent.{Listed, columns, hubOf}
 
 -- ---- events pushed
@@ -74,26 +75,7 @@ module _ {vs : List Float} {ts bs cs : List ℕ} {head waiting : ℕ} where
 
 -- a head with another number waiting
 abbrev pub waitingHead : Head → ℕ → Head
-waitingHead d waiting =
-    record {
-      pressed = d .pressed;
-      released = d .released;
-      reversed = d .reversed;
-      filters = d .filters;
-      updates = d .updates;
-      counter = d .counter;
-      pads = d .pads;
-      counts = d .counts;
-      connected = d .connected;
-      hats = d .hats;
-      converts = d .converts;
-      renamed = d .renamed;
-      newhats = d .newhats;
-      newconverts = d .newconverts;
-      flags = d .flags;
-      head = d .head;
-      waiting = waiting;
-    }
+waitingHead d waiting = headQueue d (d .head) waiting
 
 -- the hub is the law book's with the event waiting
 pub pushed-hub :

@@ -29,12 +29,14 @@ const INSERT_LIMIT: u8 = 16;
 // kinds of elements
 // ---- in order: a number where the input does not fit, and the first number that there is
 
+// A refusal's number where something does not fit, else 0.
 pub fn unless_fits(fits: bool, number: u8) -> u8
     ensures { λ r. ⌜ r ≡ unlessFits fits number ⌝ }
 {
     if fits { 0 } else { number }
 }
 
+// The first refusal of two: 0 is none.
 pub fn first(a: u8, b: u8) -> u8
     ensures { λ r. ⌜ r ≡ Refusals.first a b ⌝ }
 {
@@ -49,6 +51,7 @@ fn in_unit(x: f32) -> bool
     choices::both(0.0 <= x, x <= 1.0)
 }
 
+// 1: thresholds of `new` that do not lie in 0..1 with released below pressed.
 pub fn thresholds_refusal(pressed: f32, released: f32) -> u8
     ensures { λ r. ⌜ r ≡ thresholdsRefusal pressed released ⌝ }
 {
@@ -64,6 +67,7 @@ pub fn thresholds_refusal(pressed: f32, released: f32) -> u8
 
 // ---- 6
 
+// Whether a pad is registered.
 pub fn is_registered(pads: u8, p: u8) -> bool
     ensures { λ r. ⌜ r ≡ isRegistered pads p ⌝ }
 {
@@ -72,12 +76,14 @@ pub fn is_registered(pads: u8, p: u8) -> bool
 
 // ---- 11 and 12
 
+// Whether an event's value lies in -1..1, by its bits.
 pub fn value_fits(bits: u32) -> bool
     ensures { λ r. ⌜ r ≡ valueFits bits ⌝ }
 {
     bits % 0x8000_0000 <= 0x3f80_0000
 }
 
+// Whether a time is below 2^62.
 pub fn time_fits(time: u64) -> bool
     ensures { λ r. ⌜ r ≡ timeFits time ⌝ }
 {
@@ -107,6 +113,7 @@ fn element_refusal(recordkind: u8, kind: u8) -> u8
     )
 }
 
+// The refusal of a record that is well formed: 6, 9, 10, 11, 12.
 pub fn fields_refusal(raw: RawRecord, pads: u8, kind: u8) -> u8
     ensures { λ r. ⌜ r ≡ fieldsRefusal raw pads kind ⌝ }
 {
@@ -122,6 +129,7 @@ pub fn fields_refusal(raw: RawRecord, pads: u8, kind: u8) -> u8
     )
 }
 
+// The refusal of the record that a step looks at: 8, then those of its fields.
 pub fn record_refusal(l: NextRecord, pads: u8, kind: u8) -> u8
     ensures { λ r. ⌜ r ≡ recordRefusal l pads kind ⌝ }
 {
@@ -137,6 +145,7 @@ fn code_refusal(kind: u8, place: usize) -> u8
     choices::chosen(EVENT_AXIS < kind, 0, unless_fits(place < NOWHERE, 9))
 }
 
+// The refusal of an event that `update` is given: 6, 9, 11, 12.
 pub fn form_refusal(f: EventForm, pads: u8, place: usize) -> u8
     ensures { λ r. ⌜ r ≡ formRefusal f pads place ⌝ }
 {
@@ -152,6 +161,7 @@ pub fn form_refusal(f: EventForm, pads: u8, place: usize) -> u8
     )
 }
 
+// The same for `insert_event`: also 13, where 16 or more wait.
 pub fn insert_refusal(f: EventForm, pads: u8, place: usize, waiting: u8) -> u8
     ensures { λ r. ⌜ r ≡ insertRefusal f pads place waiting ⌝ }
 {
@@ -163,6 +173,7 @@ pub fn insert_refusal(f: EventForm, pads: u8, place: usize, waiting: u8) -> u8
 
 // ---- the pump: 14, then 8 for a place past the end
 
+// The refusal of a whole pump call: 14, a buffer is too long; 8, the place lies past the batch.
 pub fn pump_refusal(batch: usize, out: usize, place: usize) -> u8
     ensures { λ r. ⌜ r ≡ pumpRefusal batch out place ⌝ }
 {
@@ -175,6 +186,7 @@ pub fn pump_refusal(batch: usize, out: usize, place: usize) -> u8
 
 // ---- repeat: 15, 12
 
+// The refusal of `repeat`: 15, then 12.
 pub fn repeat_refusal(after: u64, every: u64, now: u64) -> u8
     ensures { λ r. ⌜ r ≡ repeatRefusal after every now ⌝ }
 {
@@ -187,6 +199,7 @@ pub fn repeat_refusal(after: u64, every: u64, now: u64) -> u8
 
 // ---- queries: 6, 16
 
+// 6: a pad that is not registered.
 pub fn pad_refusal(pads: u8, p: u8) -> u8
     ensures { λ r. ⌜ r ≡ unlessFits (isRegistered pads p) 6 ⌝ }
 {
@@ -203,18 +216,21 @@ fn named_refusal(pads: u8, p: u8, sort: bool) -> u8
     )
 }
 
+// The refusal of a query by a button's name: 6, 16.
 pub fn button_query_refusal(pads: u8, p: u8, name: u8) -> u8
     ensures { λ r. ⌜ r ≡ buttonQueryRefusal pads p name ⌝ }
 {
     named_refusal(pads, p, names::names_button(name))
 }
 
+// The refusal of a query by an axis's name: 6, 16.
 pub fn axis_query_refusal(pads: u8, p: u8, name: u8) -> u8
     ensures { λ r. ⌜ r ≡ axisQueryRefusal pads p name ⌝ }
 {
     named_refusal(pads, p, names::names_axis(name))
 }
 
+// The refusal of a query by a name of either kind: 6, 16.
 pub fn name_query_refusal(pads: u8, p: u8, name: u8) -> u8
     ensures { λ r. ⌜ r ≡ nameQueryRefusal pads p name ⌝ }
 {

@@ -30,6 +30,7 @@ use Rattle.rules.specs.Places.{placeOf, noElement, rowsOf, convertsOf, c
 use Rattle.rules.specs.Refusals.{thresholdsRefusal, isRegistered, formRefusal, insertRefusal, first, unlessFits}
 use Rattle.rules.specs.Events.{formEvent}
 use Rattle.rules.specs.State.{nextCounter}
+use Rattle.rules.specs.Setters.{withCounter, withSheet, withRows, withNames, withMarks, withState, withFlags, withQueue}
 use Rattle.rules.specs.Hub.{placeIn, queueAfter, waitingAfter}
 use Rattle.rules.specs.Step.{updatedOf}
 
@@ -114,37 +115,16 @@ rowElement r = r .element
 unfoldable pub registeredAt : Hub → ℕ → ℕ → ℕ → List Row → Hub
 unfolding laid clearedOf convertsOf
 registeredAt h p hats count rows =
-    record {
-      pressed = h .pressed;
-      released = h .released;
-      reversed = h .reversed;
-      filters = h .filters;
-      updates = h .updates;
-      counter = h .counter;
-      pads = p + 1;
-      counts = set (h .counts) p count;
-      connected = set (h .connected) p true;
-      hats = set (h .hats) p hats;
-      converts =
-          set (h .converts) p
-          (convertsOf hats (laid (h .codes) (placesPerPad * p) (map rowCode rows)) (laid (h .names) (placesPerPad * p) (map rowName rows)) p);
-      renamed = set (h .renamed) p false;
-      newhats = h .newhats;
-      newconverts = h .newconverts;
-      codes = laid (h .codes) (placesPerPad * p) (map rowCode rows);
-      kinds = laid (h .kinds) (placesPerPad * p) (map rowKind rows);
-      names = laid (h .names) (placesPerPad * p) (map rowName rows);
-      renames = h .renames;
-      elements = laid (h .elements) (placesPerPad * p) (map rowElement rows);
-      hasbutton = clearedOf (h .hasbutton) (placesPerPad * p) placesPerPad;
-      buttons = h .buttons;
-      hasaxis = clearedOf (h .hasaxis) (placesPerPad * p) placesPerPad;
-      axes = h .axes;
-      flags = clearedOf (h .flags) (flagsPerPad * p) flagsPerPad;
-      queue = h .queue;
-      head = h .head;
-      waiting = h .waiting;
-    }
+    let run = placesPerPad * p in
+    let codes = laid (h .codes) run (map rowCode rows) in
+    let names = laid (h .names) run (map rowName rows) in
+    let listed = withRows h codes (laid (h .kinds) run (map rowKind rows)) names (laid (h .elements) run (map rowElement rows)) in
+    let kept =
+    withSheet listed (p + 1) (set (h .counts) p count) (set (h .hats) p hats) (set (h .converts) p (convertsOf hats codes names p))
+    in
+    let stands = withMarks kept (set (h .connected) p true) (set (h .renamed) p false) in
+    let fresh = withState stands (clearedOf (h .hasbutton) run placesPerPad) (h .buttons) (clearedOf (h .hasaxis) run placesPerPad) (h .axes) in
+    withFlags fresh (clearedOf (h .flags) (flagsPerPad * p) flagsPerPad)
 
 -- 2: "four pads stand"
 unfoldable pub registerRefusal : ℕ → List ℕ → ℕ
@@ -176,35 +156,8 @@ renamesOf h p list = renamesAfter (h .renames) (h .kinds) list placesPerPad (pla
 unfoldable pub renamedAt : Hub → ℕ → List ℕ → Hub
 unfolding convertsOf
 renamedAt h p renames =
-    record {
-      pressed = h .pressed;
-      released = h .released;
-      reversed = h .reversed;
-      filters = h .filters;
-      updates = h .updates;
-      counter = h .counter;
-      pads = h .pads;
-      counts = h .counts;
-      connected = h .connected;
-      hats = h .hats;
-      converts = h .converts;
-      renamed = set (h .renamed) p true;
-      newhats = set (h .newhats) p 0;
-      newconverts = set (h .newconverts) p (convertsOf 0 (h .codes) renames p);
-      codes = h .codes;
-      kinds = h .kinds;
-      names = h .names;
-      renames = renames;
-      elements = h .elements;
-      hasbutton = h .hasbutton;
-      buttons = h .buttons;
-      hasaxis = h .hasaxis;
-      axes = h .axes;
-      flags = h .flags;
-      queue = h .queue;
-      head = h .head;
-      waiting = h .waiting;
-    }
+    let named = withNames h (set (h .newhats) p 0) (set (h .newconverts) p (convertsOf 0 (h .codes) renames p)) renames in
+    withMarks named (h .connected) (set (h .renamed) p true)
 
 -- "Rename: 6, 7, 3, 4, 5"; 7: "rename of a disconnected pad"
 unfoldable pub renameRefusal : Hub → ℕ → List ℕ → ℕ
@@ -243,35 +196,7 @@ updateOf h s = updateBy (readEvent s) h
 unfoldable pub insertedAt : Hub → Event → Hub
 unfolding queueAfter waitingAfter
 insertedAt h e =
-    record {
-      pressed = h .pressed;
-      released = h .released;
-      reversed = h .reversed;
-      filters = h .filters;
-      updates = h .updates;
-      counter = h .counter;
-      pads = h .pads;
-      counts = h .counts;
-      connected = h .connected;
-      hats = h .hats;
-      converts = h .converts;
-      renamed = h .renamed;
-      newhats = h .newhats;
-      newconverts = h .newconverts;
-      codes = h .codes;
-      kinds = h .kinds;
-      names = h .names;
-      renames = h .renames;
-      elements = h .elements;
-      hasbutton = h .hasbutton;
-      buttons = h .buttons;
-      hasaxis = h .hasaxis;
-      axes = h .axes;
-      flags = h .flags;
-      queue = queueAfter (h .queue) (h .head) (h .waiting) (e ∷ []);
-      head = h .head;
-      waiting = waitingAfter (h .waiting) (e ∷ []);
-    }
+    withQueue h (queueAfter (h .queue) (h .head) (h .waiting) (e ∷ [])) (h .head) (waitingAfter (h .waiting) (e ∷ []))
 
 abbrev pub insertFormBy : ℕ → Hub → EventForm → Answered
 insertFormBy zero h f = record { hub = insertedAt h (formEvent f); answer = answer.Done }
@@ -288,36 +213,7 @@ insertOf h s = insertBy (readEvent s) h
 -- ---- the counter
 
 unfoldable pub countedAt : Hub → ℕ → Hub
-countedAt h n =
-    record {
-      pressed = h .pressed;
-      released = h .released;
-      reversed = h .reversed;
-      filters = h .filters;
-      updates = h .updates;
-      counter = n;
-      pads = h .pads;
-      counts = h .counts;
-      connected = h .connected;
-      hats = h .hats;
-      converts = h .converts;
-      renamed = h .renamed;
-      newhats = h .newhats;
-      newconverts = h .newconverts;
-      codes = h .codes;
-      kinds = h .kinds;
-      names = h .names;
-      renames = h .renames;
-      elements = h .elements;
-      hasbutton = h .hasbutton;
-      buttons = h .buttons;
-      hasaxis = h .hasaxis;
-      axes = h .axes;
-      flags = h .flags;
-      queue = h .queue;
-      head = h .head;
-      waiting = h .waiting;
-    }
+countedAt h n = withCounter h n
 
 unfoldable pub incOf : Hub → Hub
 unfolding countedAt nextCounter

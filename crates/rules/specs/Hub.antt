@@ -76,8 +76,11 @@ valueAt h k = readValue (hasAxisAt h k) (axisAt h k) (hasButtonAt h k) (buttonAt
 unfoldable pub hatsNow : Hub → ℕ → ℕ
 hatsNow h p = cond (getD (h .renamed) p false) (getD (h .newhats) p 0) (getD (h .hats) p 0)
 
-unfoldable pub convertsNow : Hub → ℕ → Bool
-convertsNow h p = cond (getD (h .renamed) p false) (getD (h .newconverts) p false) (getD (h .converts) p false)
+unfoldable pub convertsIn : List Bool → List Bool → List Bool → ℕ → Bool
+convertsIn renamed converts newconverts p = cond (getD renamed p false) (getD newconverts p false) (getD converts p false)
+
+abbrev pub convertsNow : Hub → ℕ → Bool
+convertsNow h p = convertsIn (h .renamed) (h .converts) (h .newconverts) p
 
 -- ---- what the filters see for an event
 
@@ -87,17 +90,24 @@ unfolding flagOf
 flagPlace p n = cond (ltb p padLimit && ltb (flagOf n) flagsPerPad) (flagsPerPad * p + flagOf n) (flagsPerPad * padLimit)
 
 -- a direction's place, for a hat's axis
-unfoldable pub hatPlace : Hub → ℕ → ℕ → ℕ → ℕ
+unfoldable pub hatPlaceOf : List ℕ → ℕ → ℕ → ℕ → ℕ
 unfolding isHat placeOf
-hatPlace h p n c = cond (isHat n) (placeIn h p c) nowhere
+hatPlaceOf codes p n c = cond (isHat n) (placeOf codes p c) nowhere
+
+abbrev pub hatPlace : Hub → ℕ → ℕ → ℕ → ℕ
+hatPlace h p n c = hatPlaceOf (h .codes) p n c
 
 -- the place of the partner's present code
-unfoldable pub partnerPlace : Hub → ℕ → ℕ → ℕ
+unfoldable pub partnerPlaceOf : List ℕ → List ℕ → List Bool → ℕ → ℕ → ℕ
 unfolding partnerOf namedOf presentNames
-partnerPlace h p n = cond (eqb (partnerOf n) 0) nowhere (namedOf (namesIn h p) p (partnerOf n))
+partnerPlaceOf names renames renamed p n =
+    cond (eqb (partnerOf n) 0) nowhere (namedOf (presentNames names renames renamed p) p (partnerOf n))
+
+abbrev pub partnerPlace : Hub → ℕ → ℕ → ℕ
+partnerPlace h p n = partnerPlaceOf (h .names) (h .renames) (h .renamed) p n
 
 unfoldable pub viewAt : Hub → ℕ → ℕ → ℕ → View
-unfolding hatPlace partnerPlace flagPlace partnerOf positiveCode negativeCode pressedAt valueAt convertsNow
+unfolding hatPlaceOf partnerPlaceOf flagPlace partnerOf positiveCode negativeCode pressedAt valueAt convertsIn
 viewAt h p n k =
     record {
       converts = convertsNow h p;

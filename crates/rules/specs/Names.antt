@@ -36,10 +36,6 @@ lastWait = 60000000
 abbrev pub bufferLimit : ℕ
 bufferLimit = 16384
 
--- "Deadzone 0..16,777,215 or absent"
-abbrev pub lastDeadzone : ℕ
-lastDeadzone = 16777215
-
 -- "The queue holds 64"
 abbrev pub queueRoom : ℕ
 queueRoom = 64

@@ -1,6 +1,7 @@
 -- The queries: they read the hub and change nothing. "Query: 6, 16"; "A query by a code not known reads false or 0.0". Definitions only.
 use Prim.Native.Nat.{ℕ, zero, suc}
 use mathlib.Core.Bool.{Bool, true, false, cond}
+use mathlib.Core.List.{List}
 use lib.ListN.{getD}
 use lib.Dec.{eqb, ltb}
 use lib.Ieee.{Float}
@@ -43,12 +44,16 @@ unfolding isRegistered placeOf pressedAt
 pressedByCode h p c = truthBy (padRefusal h p) (pressedAt h (placeIn h p c))
 
 -- "`is_pressed` by a name that no element has falls back to `to_nec`"
-unfoldable pub buttonPlace : Hub → ℕ → ℕ → ℕ
+unfoldable pub buttonPlaceOf : List ℕ → List ℕ → List ℕ → List Bool → ℕ → ℕ → ℕ
 unfolding placeOf namedOf presentNames toNec
-buttonPlace h p n = cond (ltb (namedIn h p n) nowhere) (namedIn h p n) (placeIn h p (toNec n))
+buttonPlaceOf codes names renames renamed p n =
+    let named = namedOf (presentNames names renames renamed p) p n in cond (ltb named nowhere) named (placeOf codes p (toNec n))
+
+abbrev pub buttonPlace : Hub → ℕ → ℕ → ℕ
+buttonPlace h p n = buttonPlaceOf (h .codes) (h .names) (h .renames) (h .renamed) p n
 
 unfoldable pub pressedByName : Hub → ℕ → ℕ → TruthAnswer
-unfolding buttonQueryRefusal buttonPlace pressedAt
+unfolding buttonQueryRefusal buttonPlaceOf pressedAt
 pressedByName h p n = truthBy (buttonQueryRefusal (h .pads) p n) (pressedAt h (buttonPlace h p n))
 
 unfoldable pub connectedOf : Hub → ℕ → TruthAnswer

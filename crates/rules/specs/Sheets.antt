@@ -6,11 +6,9 @@ use lib.ListN.{length, getD}
 use lib.Dec.{eqb, ltb, leb}
 use lib.IntN.{ℤ, pos, negsuc}
 use lib.Signed.{ltZ}
-use Rattle.numbers.specs.Constants.{withinOf, absent}
+use Rattle.numbers.specs.Constants.{withinOf, deadzoneWithinOf}
 use Rattle.rules.specs.declared.SheetElement.{SheetElement}
-use Rattle.rules.specs.declared.SheetRead.{SheetRead}
-use Rattle.rules.specs.declared.SheetRead.the-variants as sheetRead
-use Rattle.rules.specs.Names.{nameAllowed, noName, elementLimit, lastDeadzone}
+use Rattle.rules.specs.Names.{nameAllowed, noName, elementLimit}
 use Rattle.rules.specs.Forms.{fieldOf, signedOf, bytesOf, bitsOfSigned, opens, version}
 
 -- ---- the bytes
@@ -80,9 +78,8 @@ buttonFits e = isZero (e .min) && (isZero (e .max) && eqb (e .deadzone) 0)
 
 -- "Axis min < max, and min, max and raw values in -8,388,608..8,388,607"; "Deadzone 0..16,777,215 or absent"
 unfoldable pub axisFits : SheetElement → Bool
-unfolding withinOf
-axisFits e =
-    withinOf (e .min) && (withinOf (e .max) && (ltZ (e .min) (e .max) && (leb (e .deadzone) lastDeadzone || eqb (e .deadzone) absent)))
+unfolding withinOf deadzoneWithinOf
+axisFits e = withinOf (e .min) && (withinOf (e .max) && (ltZ (e .min) (e .max) && deadzoneWithinOf (e .deadzone)))
 
 -- kind, name, and the limits of its kind
 unfoldable pub elementFits : SheetElement → Bool
@@ -129,14 +126,6 @@ sheetRefusal s =
     cond (not (sheetFits s)) 3
     (cond (ltb lastHats (hatsOf s) || not (elementsFit s (countOf s) 0)) 4
     (cond (occursTwice s (sheetOpening + nameOffset) elementSize (countOf s) 0) 5 0))
-
-abbrev pub pickSheet : Bool → ℕ → ℕ → ℕ → SheetRead
-pickSheet true hats n number = sheetRead.Sheet hats n
-pickSheet false hats n number = sheetRead.Refused number
-
-unfoldable pub readSheet : List ℕ → SheetRead
-unfolding sheetRefusal hatsOf countOf
-readSheet s = pickSheet (eqb (sheetRefusal s) 0) (hatsOf s) (countOf s) (sheetRefusal s)
 
 -- ---- "rename list not one name per element" 3, a name that is none 4, a name twice 5
 

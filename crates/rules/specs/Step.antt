@@ -1,5 +1,5 @@
 -- A step: it takes the queue's front, else the next raw record; the event passes the filters; what they queue waits; and the state is updated.
--- Each stage is one record that copies the fields it leaves alone. Definitions only.
+-- Each stage sets the fields that it means. Definitions only.
 use Prim.Native.Nat.{ℕ, zero, suc, _+_, _-_, _*_, _%_}
 use mathlib.Core.Bool.{Bool, true, false, cond, not, _&&_, _||_}
 use mathlib.Core.List.{List, [], _∷_, _++_}
@@ -24,6 +24,7 @@ use Rattle.rules.specs.Events.{nameOf, codeOf, queuedOf}
 use Rattle.rules.specs.Dispatch.{dispatchOf, single}
 use Rattle.rules.specs.Filters.{filteredOf}
 use Rattle.rules.specs.State.{buttonAfter, axisAfter, writesButton, writesAxis}
+use Rattle.rules.specs.Setters.{withMarks, withState, withFlags, withQueue}
 use Rattle.rules.specs.Hub.{placeIn, nameIn, kindAt, elementAt, buttonAt, axisAt, hasButtonAt, hasAxisAt, pressedAt, frontOf, flagPlace, viewOf, queueAfter, waitingAfter}
 
 -- ---- the record looked at
@@ -82,35 +83,12 @@ headAfter head waiting = cond (ltb 0 waiting) ((head % queueRoom + 1) % queueRoo
 unfoldable pub markedOf : Hub → RawRecord → Hub
 unfolding connectedAfter renamedAfter marksCleared headAfter clearedOf
 markedOf h r =
-    record {
-      pressed = h .pressed;
-      released = h .released;
-      reversed = h .reversed;
-      filters = h .filters;
-      updates = h .updates;
-      counter = h .counter;
-      pads = h .pads;
-      counts = h .counts;
-      connected = connectedAfter (h .connected) (r .pad) (r .kind);
-      hats = h .hats;
-      converts = h .converts;
-      renamed = renamedAfter (h .renamed) (r .pad) (r .kind);
-      newhats = h .newhats;
-      newconverts = h .newconverts;
-      codes = h .codes;
-      kinds = h .kinds;
-      names = h .names;
-      renames = h .renames;
-      elements = h .elements;
-      hasbutton = clearedOf (h .hasbutton) (placesPerPad * r .pad) (marksCleared (r .kind) placesPerPad);
-      buttons = h .buttons;
-      hasaxis = clearedOf (h .hasaxis) (placesPerPad * r .pad) (marksCleared (r .kind) placesPerPad);
-      axes = h .axes;
-      flags = clearedOf (h .flags) (flagsPerPad * r .pad) (marksCleared (r .kind) flagsPerPad);
-      queue = h .queue;
-      head = headAfter (h .head) (h .waiting);
-      waiting = h .waiting - 1;
-    }
+    let joined = withMarks h (connectedAfter (h .connected) (r .pad) (r .kind)) (renamedAfter (h .renamed) (r .pad) (r .kind)) in
+    let run = placesPerPad * r .pad in
+    let places = marksCleared (r .kind) placesPerPad in
+    let fresh = withState joined (clearedOf (h .hasbutton) run places) (h .buttons) (clearedOf (h .hasaxis) run places) (h .axes) in
+    let unflagged = withFlags fresh (clearedOf (h .flags) (flagsPerPad * r .pad) (marksCleared (r .kind) flagsPerPad)) in
+    withQueue unflagged (h .queue) (headAfter (h .head) (h .waiting)) (h .waiting - 1)
 
 -- ---- what waits behind the event: the record's own, then the filters'
 
@@ -126,70 +104,18 @@ flagsSet flags p n f = set (set flags (flagPlace p n) (f .own)) (flagPlace p (pa
 unfoldable pub pushedOf : Hub → Event → Flags → List Event → Hub
 unfolding flagsSet nameOf queueAfter waitingAfter
 pushedOf h e f es =
-    record {
-      pressed = h .pressed;
-      released = h .released;
-      reversed = h .reversed;
-      filters = h .filters;
-      updates = h .updates;
-      counter = h .counter;
-      pads = h .pads;
-      counts = h .counts;
-      connected = h .connected;
-      hats = h .hats;
-      converts = h .converts;
-      renamed = h .renamed;
-      newhats = h .newhats;
-      newconverts = h .newconverts;
-      codes = h .codes;
-      kinds = h .kinds;
-      names = h .names;
-      renames = h .renames;
-      elements = h .elements;
-      hasbutton = h .hasbutton;
-      buttons = h .buttons;
-      hasaxis = h .hasaxis;
-      axes = h .axes;
-      flags = flagsSet (h .flags) (e .pad) (nameOf e) f;
-      queue = queueAfter (h .queue) (h .head) (h .waiting) es;
-      head = h .head;
-      waiting = waitingAfter (h .waiting) es;
-    }
+    withQueue (withFlags h (flagsSet (h .flags) (e .pad) (nameOf e) f)) (queueAfter (h .queue) (h .head) (h .waiting) es) (h .head)
+    (waitingAfter (h .waiting) es)
 
 -- ---- the state after an event, `update`; an event of no code, or one dropped, changes nothing
 
 unfoldable pub updatedAt : Bool → Hub → Event → ℕ → Hub
 unfolding buttonAfter axisAfter writesButton writesAxis
 updatedAt on h e k =
-    record {
-      pressed = h .pressed;
-      released = h .released;
-      reversed = h .reversed;
-      filters = h .filters;
-      updates = h .updates;
-      counter = h .counter;
-      pads = h .pads;
-      counts = h .counts;
-      connected = h .connected;
-      hats = h .hats;
-      converts = h .converts;
-      renamed = h .renamed;
-      newhats = h .newhats;
-      newconverts = h .newconverts;
-      codes = h .codes;
-      kinds = h .kinds;
-      names = h .names;
-      renames = h .renames;
-      elements = h .elements;
-      hasbutton = set (h .hasbutton) k (hasButtonAt h k || (on && writesButton e));
-      buttons = set (h .buttons) k (cond on (buttonAfter e (hasButtonAt h k) (buttonAt h k) (h .counter)) (buttonAt h k));
-      hasaxis = set (h .hasaxis) k (hasAxisAt h k || (on && writesAxis e));
-      axes = set (h .axes) k (cond on (axisAfter e (axisAt h k) (h .counter)) (axisAt h k));
-      flags = h .flags;
-      queue = h .queue;
-      head = h .head;
-      waiting = h .waiting;
-    }
+    withState h (set (h .hasbutton) k (hasButtonAt h k || (on && writesButton e)))
+    (set (h .buttons) k (cond on (buttonAfter e (hasButtonAt h k) (buttonAt h k) (h .counter)) (buttonAt h k)))
+    (set (h .hasaxis) k (hasAxisAt h k || (on && writesAxis e)))
+    (set (h .axes) k (cond on (axisAfter e (axisAt h k) (h .counter)) (axisAt h k)))
 
 unfoldable pub updatedOf : Bool → Hub → Event → Hub
 unfolding updatedAt codeOf placeOf

@@ -122,12 +122,6 @@ pub struct SheetElement {
     pub deadzone: u32,
 }
 
-// What reading a sheet finds: its hats and how many elements it lists, or a refusal.
-pub enum SheetRead {
-    Sheet(u8, u8),
-    Refused(u8),
-}
-
 // What the hub keeps of an axis element: its lowest value and its range as binary32, whether the range is odd, and its deadzone threshold.
 pub struct Element {
     pub low: f32,

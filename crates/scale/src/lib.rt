@@ -43,6 +43,7 @@ pub fn deadzone_within(deadzone: u32) -> bool
 
 // ---- what an axis element keeps of its min and max
 
+// An axis element's lowest value, as binary32.
 pub fn low_of(min: i32) -> f32
     requires { ⌜ withinOf min ≡ true ⌝ }
     ensures { λ r. ⌜ r ≡ lowOf min ⌝ }
@@ -50,6 +51,7 @@ pub fn low_of(min: i32) -> f32
     min as f32
 }
 
+// Its range, max - min, as binary32.
 pub fn range_of(min: i32, max: i32) -> f32
     requires { ⌜ (withinOf min ≡ true) × (withinOf max ≡ true) ⌝ }
     ensures { λ r. ⌜ r ≡ rangeOf min max ⌝ }
@@ -57,6 +59,7 @@ pub fn range_of(min: i32, max: i32) -> f32
     (max as f32) - (min as f32)
 }
 
+// Whether its range is odd, which gilrs scales by another formula.
 pub fn odd_of(min: i32, max: i32) -> bool
     requires { ⌜ (withinOf min ≡ true) × (withinOf max ≡ true) ⌝ }
     ensures { λ r. ⌜ r ≡ oddOf min max ⌝ }

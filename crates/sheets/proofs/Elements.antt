@@ -1,15 +1,15 @@
 -- What each test of an element says of the definitions, over the element and plain numbers.
 use mathlib.Core.Path.{_≡_, refl, sym}
 use mathlib.Core.Bool.{Bool, true, false, _||_}
-use Prim.Native.Nat.{_<_, _≤_}
+use Prim.Native.Nat.{_<_}
 use lib.IntN.{ℤ}
 use lib.Signed.{mag, ltZ}
 use lib.Dec.{eqb}
-use borrow.Author.Tests.{ne-eqb, le-leb, lt-leb}
+use borrow.Author.Tests.{ne-eqb}
 use mir.Syntax.{w32}
 use mir.Val.{toZ, ofZ}
 use mir.Facts.{toZ-ofZ}
-use Rattle.numbers.specs.Constants.{withinOf}
+use Rattle.numbers.specs.Constants.{withinOf, deadzoneWithinOf}
 use Rattle.rules.specs.declared.SheetElement.{SheetElement}
 use Rattle.rules.specs.Names.{nameAllowed}
 use Rattle.rules.specs.Sheets.{isZero, buttonFits, axisFits, elementFits}
@@ -50,13 +50,9 @@ module _ (e : SheetElement) where
       axis-empty h = rw (low, high, h)
 
       module _ (rising : ltZ (e .min) (e .max) ≡ true) where
-        pub axis-deadzone : e .deadzone ≤ 16777215 → true ≡ axisFits e
+        pub axis-deadzone : deadzoneWithinOf (e .deadzone) ≡ axisFits e
         unfolding axisFits
-        axis-deadzone h = rw (low, high, rising, le-leb _ _ h)
-
-        pub axis-absent : 16777215 < e .deadzone → eqb (e .deadzone) 0xffffffff ≡ axisFits e
-        unfolding axisFits
-        axis-absent h = rw (low, high, rising, lt-leb _ _ h)
+        axis-deadzone = rw (low, high, rising)
 
   pub unnamed : nameAllowed (e .name) ≡ false → false ≡ elementFits e
   unfolding elementFits

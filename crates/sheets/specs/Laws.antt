@@ -11,9 +11,9 @@ use lib.IntN.{ℤ, pos, negsuc}
 use lib.Signed.{ltZ}
 use lib.Dec.{eqb, leb, ltb}
 use borrow.Author.Tests.{eqb-true, leb-true, ltb-false, lt-ltb, not-false}
-use Rattle.numbers.specs.Constants.{withinOf, wholeLimit, absent}
+use Rattle.numbers.specs.Constants.{withinOf, wholeLimit, deadzoneWithinOf}
 use Rattle.rules.specs.declared.SheetElement.{SheetElement}
-use Rattle.rules.specs.Names.{nameAllowed, elementLimit, lastDeadzone}
+use Rattle.rules.specs.Names.{nameAllowed, elementLimit}
 use Rattle.rules.specs.Forms.{opens}
 use Rattle.rules.specs.Sheets.{sheetOpening, elementSize, nameOffset, elementButton, elementAxis, lastHats, elementOf, hatsOf, countOf, sheetFits, isZero, buttonFits, axisFits, elementFits, rises, elementsFit, occursTwice, sheetRefusal, namesFit, renameListRefusal}
 
@@ -128,7 +128,7 @@ pub record AxisKeeps (e : SheetElement) : Type 0 where
   pub min : withinOf (e .min) ≡ true
   pub max : withinOf (e .max) ≡ true
   pub rising : ltZ (e .min) (e .max) ≡ true
-  pub deadzone : (e .deadzone ≤ lastDeadzone) ⊎ (e .deadzone ≡ absent)
+  pub deadzone : deadzoneWithinOf (e .deadzone) ≡ true
 
 button-keeps : (e : SheetElement) → buttonFits e ≡ true → ButtonKeeps e
 unfolding buttonFits
@@ -145,15 +145,14 @@ axis-keeps e h =
     let min = withinOf (e .min) in
     let max = withinOf (e .max) in
     let rising = ltZ (e .min) (e .max) in
-    let dead = leb (e .deadzone) lastDeadzone || eqb (e .deadzone) absent in
+    let dead = deadzoneWithinOf (e .deadzone) in
     let r = right min (max && (rising && dead)) h in
     let q = right max (rising && dead) r in
-    let d = either (leb (e .deadzone) lastDeadzone) (eqb (e .deadzone) absent) (right rising dead q) in
     record {
       min = left min (max && (rising && dead)) h;
       max = left max (rising && dead) r;
       rising = left rising dead q;
-      deadzone = ⊎-elim (λ x. inl (leb-true _ _ x)) (λ x. inr (eqb-true _ _ x)) d;
+      deadzone = right rising dead q;
     }
 
 module _ (e : SheetElement) (fits : elementFits e ≡ true) where
@@ -180,10 +179,6 @@ module _ (e : SheetElement) (fits : elementFits e ≡ true) where
 
   pub max-within : withinOf (e .max) ≡ true
   max-within = ⊎-elim (λ h. zero-within (e .max) (button-keeps e (h .1) .max)) (λ h. axis-keeps e (h .1) .max) sort
-
-  pub deadzone-within : (e .deadzone ≤ lastDeadzone) ⊎ (e .deadzone ≡ absent)
-  deadzone-within =
-      ⊎-elim (λ h. let z = button-keeps e (h .1) .deadzone in inl (omega arith)) (λ h. axis-keeps e (h .1) .deadzone) sort
 
 -- ---- rename lists
 

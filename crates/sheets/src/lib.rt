@@ -7,14 +7,13 @@ use rules::ELEMENT_SIZE;
 use rules::NO_NAME;
 use rules::SHEET_OPENING;
 use rules::SheetElement;
-use rules::SheetRead;
 ghost use mathlib.Core.Path.{_≡_};
 ghost use Prim.Native.Nat.{_+_, _-_, _*_, _≤_, _<_};
 ghost use lib.ListN.{length};
 ghost use lib.Signed.{ltZ};
 ghost use Rattle.rules.specs.Names.{nameAllowed};
 ghost use Rattle.sheets.specs.Spread.{Spread, occursAgain};
-ghost use Rattle.rules.specs.Sheets.{elementFields, elementOf, sheetFits, isZero, buttonFits, axisFits, elementFits, rises, elementsFit, occursIn, occursTwice, sheetRefusal, readSheet, namesFit, renameListRefusal};
+ghost use Rattle.rules.specs.Sheets.{elementFields, elementOf, sheetFits, isZero, buttonFits, axisFits, elementFits, rises, elementsFit, occursIn, occursTwice, sheetRefusal, namesFit, renameListRefusal};
 
 // ---- sizes, kinds and limits
 
@@ -25,10 +24,6 @@ const NAME_OFFSET: usize = 5;
 const ELEMENT_LIMIT: u8 = 48;
 
 const LAST_HATS: u8 = 15;
-
-const LAST_DEADZONE: u32 = 16777215;
-
-const ABSENT: u32 = 0xffff_ffff;
 
 // ---- elements
 
@@ -108,10 +103,7 @@ fn axis_fits(e: SheetElement) -> bool
     if !below(e.min, e.max) {
         return false;
     }
-    if e.deadzone <= LAST_DEADZONE {
-        return true;
-    }
-    e.deadzone == ABSENT
+    scale::deadzone_within(e.deadzone)
 }
 
 // Kind, name, and the limits of its kind.
@@ -163,8 +155,8 @@ fn elements_fit(s: &[u8], count: usize) -> bool
 
 // ---- 5: "a name stands twice"
 
-// Names stand in bytes at start, start + stride, ..: every 18th byte of a sheet, every byte of a rename list. The name is among those from a
-// number on.
+// Whether a name is among those from the i-th on. Names stand every 18th byte in a sheet and every byte in a rename list: the first at `start`, the next `stride`
+// further.
 fn occurs_in(s: &[u8], start: usize, stride: usize, name: u8, first: usize, count: usize) -> bool
     requires { ⌜ Spread (now s) start stride count ⌝ }
     ensures { λ r. ⌜ r ≡ occursIn (now (s .entry)) start stride name (count - first) first ⌝ }
@@ -240,16 +232,6 @@ pub fn sheet_refusal(s: &[u8]) -> u8
         5,
     );
     first(hats, first(rules, names))
-}
-
-pub fn read_sheet(s: &[u8]) -> SheetRead
-    ensures { λ r. ⌜ r ≡ readSheet (now (s .entry)) ⌝ }
-{
-    let number = sheet_refusal(s);
-    if number == 0 {
-        return SheetRead::Sheet(s[3], s[4]);
-    }
-    SheetRead::Refused(number)
 }
 
 // ---- rename lists

@@ -24,6 +24,7 @@ fn kept_mark(known: bool, kept: bool, fresh: bool) -> bool
 
 // ---- the button record: gilrs's `set_btn_pressed`, `set_btn_repeating`, `set_btn_value`
 
+// The button record after an event; the same one where the event writes none.
 pub fn button_after(e: Event, known: bool, b: ButtonData, counter: u64) -> ButtonData
     ensures { λ r. ⌜ r ≡ buttonAfter e known b counter ⌝ }
 {
@@ -64,6 +65,7 @@ pub fn button_after(e: Event, known: bool, b: ButtonData, counter: u64) -> Butto
     }
 }
 
+// Whether an event writes a button record.
 pub fn writes_button(e: Event) -> bool
     ensures { λ r. ⌜ r ≡ writesButton e ⌝ }
 {
@@ -82,6 +84,7 @@ pub fn writes_button(e: Event) -> bool
 
 // ---- the axis record: gilrs's `update_axis`
 
+// The axis record after an event; the same one where the event writes none.
 pub fn axis_after(e: Event, a: AxisData, counter: u64) -> AxisData
     ensures { λ r. ⌜ r ≡ axisAfter e a counter ⌝ }
 {
@@ -102,6 +105,7 @@ pub fn axis_after(e: Event, a: AxisData, counter: u64) -> AxisData
     }
 }
 
+// Whether an event writes an axis record.
 pub fn writes_axis(e: Event) -> bool
     ensures { λ r. ⌜ r ≡ writesAxis e ⌝ }
 {
@@ -138,6 +142,7 @@ pub fn read_value(axisknown: bool, a: AxisData, buttonknown: bool, b: ButtonData
 
 const LAST_COUNTER: u64 = 0x3fff_ffff_ffff_ffff;
 
+// The counter one up, or from 2^62 - 1 to 0.
 pub fn next_counter(n: u64) -> u64
     ensures { λ r. ⌜ r ≡ nextCounter n ⌝ }
 {

@@ -26,14 +26,16 @@ use Rattle.rules.specs.Events.{codeOf, eventOf}
 use Rattle.rules.specs.State.{readPressed}
 use Rattle.rules.specs.Dispatch.{dispatchOf}
 use Rattle.rules.specs.Hub.{frontOf, pressedAt, pastSlot, pastElement, pastButton}
+use Rattle.rules.specs.Setters.{withSheet, withRows, withNames, withMarks, withState, withQueue}
+use Rattle.rules.specs.Calls.{freshHub}
 use Rattle.rules.specs.Step.{nextRecordOf, nextRecordBy, stepRefusal, recordKind, takenOf, recordGives, headAfter}
 use Rattle.rules.specs.Pump.{placeAfter}
 use Rattle.pad.specs.Found.{Placed}
 use Rattle.gather.specs.declared.Found.{Found}
 use Rattle.gather.specs.EventPlaces.{FoundIs, foundAt, found-placed}
 use Rattle.turn.specs.Turn.{takenBy}
-use Rattle.steps.specs.Records.{Taken as Judged, taken as not-refused, whole, refusal-is}
-use Rattle.steps.specs.Turns.{taken-is}
+use Rattle.pump_laws.specs.Records.{Taken as Judged, taken as not-refused, whole, refusal-is}
+use Rattle.pump_laws.specs.Turns.{taken-is}
 use Rattle.taking.specs.declared.Taken.{Taken}
 use Rattle.taking.specs.Coded.{Kept, kept-by}
 
@@ -41,35 +43,9 @@ use Rattle.taking.specs.Coded.{Kept, kept-by}
 abbrev pub takingHub :
     List ℕ → List ℕ → List ℕ → List ℕ → List Bool → List Bool → List Element → List ButtonData → List Slot → ℕ → Float → Float → Bool → ℕ → ℕ → Hub
 takingHub codes kinds names renames renamed hasbutton elements buttons queue pads pressed released reversed head waiting =
-    record {
-      pressed = pressed;
-      released = released;
-      reversed = reversed;
-      filters = false;
-      updates = false;
-      counter = 0;
-      pads = pads;
-      counts = [];
-      connected = [];
-      hats = [];
-      converts = [];
-      renamed = renamed;
-      newhats = [];
-      newconverts = [];
-      codes = codes;
-      kinds = kinds;
-      names = names;
-      renames = renames;
-      elements = elements;
-      hasbutton = hasbutton;
-      buttons = buttons;
-      hasaxis = [];
-      axes = [];
-      flags = [];
-      queue = queue;
-      head = head;
-      waiting = waiting;
-    }
+    let settled = freshHub pressed released reversed false false in
+    let listed = withRows (withNames (withSheet settled pads [] [] []) [] [] renames) codes kinds names elements in
+    withQueue (withState (withMarks listed [] renamed) hasbutton buttons [] []) queue head waiting
 
 -- what the record, or the queue's front, gives
 abbrev pub givesOf : Taken → Dispatched
@@ -98,7 +74,7 @@ pub taken-in :
     (h .reversed) (h .head) (h .waiting))
     s at r →
     TakenIs h s at r
-unfolding stepRefusal recordKind takenOf recordGives frontOf pressedAt
+unfolding stepRefusal recordKind takenOf recordGives frontOf pressedAt freshHub
 taken-in h s at t =
     record {
       number = t .number;

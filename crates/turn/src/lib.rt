@@ -53,6 +53,7 @@ pub fn stop(waiting: u8, rest: usize, room: usize, left: usize) -> u8
     )
 }
 
+// The answer for a stop's number.
 pub fn stop_answer(why: u8, place: usize, events: usize, steps: usize) -> PumpAnswer
     ensures { λ r. ⌜ r ≡ stopAnswer why place events steps ⌝ }
 {
@@ -142,6 +143,7 @@ pub fn front(head: u8) -> usize
     (head % QUEUE_ROOM) as usize
 }
 
+// The ring's front once a step took it; the same where nothing waited.
 pub fn head_after(head: u8, waiting: u8) -> u8
     ensures { λ r. ⌜ r ≡ headAfter head waiting ⌝ }
 {
@@ -152,6 +154,7 @@ pub fn head_after(head: u8, waiting: u8) -> u8
     }
 }
 
+// How many wait once the front is taken; 0 where none did.
 pub fn fewer(waiting: u8) -> u8
     ensures { λ r. ⌜ r ≡ waiting - 1 ⌝ }
 {
@@ -165,6 +168,7 @@ pub fn free(head: u8, waiting: u8) -> usize
     (choices::wide(head) + choices::wide(waiting)) % 64
 }
 
+// How many wait with one more; the ring holds 64.
 pub fn longer(waiting: u8) -> u8
     ensures { λ r. ⌜ r ≡ longerOf waiting ⌝ }
 {
@@ -185,7 +189,7 @@ pub fn place_after(waiting: u8, at: usize) -> usize
 
 // ---- what is pushed
 
-// What a record queues itself stands first; without it the filters' first is pushed first.
+// Where the list of events to push begins: at 0, the event that the record itself queues, or at 1, past it, where the record queues none.
 pub fn first_pushed(follows: bool) -> usize
     ensures { λ r. ⌜ r ≡ cond follows 0 1 ⌝ }
 {
@@ -194,6 +198,7 @@ pub fn first_pushed(follows: bool) -> usize
 
 // ---- the records after an event
 
+// The button record after a kept event, if updates are on.
 pub fn button_written(on: bool, e: Event, known: bool, b: ButtonData, counter: u64) -> ButtonData
     ensures { λ r. ⌜ r ≡ cond on (buttonAfter e known b counter) b ⌝ }
 {
@@ -204,6 +209,7 @@ pub fn button_written(on: bool, e: Event, known: bool, b: ButtonData, counter: u
     }
 }
 
+// The axis record after a kept event, if updates are on.
 pub fn axis_written(on: bool, e: Event, a: AxisData, counter: u64) -> AxisData
     ensures { λ r. ⌜ r ≡ cond on (axisAfter e a counter) a ⌝ }
 {

@@ -53,6 +53,7 @@ pub fn field(s: &[u8], at: usize, width: usize) -> u64
     x
 }
 
+// Two bytes as a number, the highest first.
 pub fn read2(s: &[u8], at: usize) -> u16
     requires { ⌜ at + 2 ≤ length (now s) ⌝ }
     ensures { λ r. ⌜ r ≡ fieldOf (now (s .entry)) at 2 ⌝ }
@@ -60,6 +61,7 @@ pub fn read2(s: &[u8], at: usize) -> u16
     field(s, at, 2) as u16
 }
 
+// Four bytes as a number, the highest first.
 pub fn read4(s: &[u8], at: usize) -> u32
     requires { ⌜ at + 4 ≤ length (now s) ⌝ }
     ensures { λ r. ⌜ r ≡ fieldOf (now (s .entry)) at 4 ⌝ }
@@ -67,6 +69,7 @@ pub fn read4(s: &[u8], at: usize) -> u32
     field(s, at, 4) as u32
 }
 
+// Eight bytes as a number, the highest first.
 pub fn read8(s: &[u8], at: usize) -> u64
     requires { ⌜ at + 8 ≤ length (now s) ⌝ }
     ensures { λ r. ⌜ r ≡ fieldOf (now (s .entry)) at 8 ⌝ }
@@ -85,6 +88,7 @@ pub fn signed_of(x: u32) -> i32
     -1 - (y as i32)
 }
 
+// Four bytes as a signed number.
 pub fn signed4(s: &[u8], at: usize) -> i32
     requires { ⌜ at + 4 ≤ length (now s) ⌝ }
     ensures { λ r. ⌜ r ≡ signedOf (fieldOf (now (s .entry)) at 4) ⌝ }
@@ -197,6 +201,7 @@ fn event_kind_fits(kind: u8, name: u8, code: u32, bits: u32) -> bool
     bits == 0
 }
 
+// An event's 22 bytes, or Malformed.
 pub fn read_event(s: &[u8]) -> EventRead
     ensures { λ r. ⌜ r ≡ readEvent (now (s .entry)) ⌝ }
 {

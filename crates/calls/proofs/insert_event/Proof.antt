@@ -1,7 +1,7 @@
 -- `calls::insert_event` meets its contract: by what reading the bytes finds.
-use Rattle.calls.specs.Judged.{insertForm}
-use Rattle.rules.specs.Calls.{insertOf}
 use borrow.Author.Needs.{needs}
+use Rattle.rules.specs.Calls.{insertOf}
+use Rattle.calls.specs.Judged.{insertForm}
 use Rattle.calls.proofs.insert_event.Statement.{statement}
 use Rattle.calls.proofs.insert_event.Tie as tie
 
@@ -19,11 +19,13 @@ enum-told c = search needs
 
 returns : tie.Need-returns
 unfolding insertOf insertForm
-returns c = rw (← c .before .before .before .before .read-event .ensures, c .before .before .read .given .1, c .insert-form .ensures)
+returns c kinds names renames hasbutton hasaxis marks =
+    rw (← c .before .before .before .before .before .before .before .before .read-event .ensures, c .before .before .before .before .before .before .read .given .1)
+    (c .insert-form .ensures kinds names renames hasbutton hasaxis marks)
 
 returns-2 : tie.Need-returns-2
 unfolding insertOf
-returns-2 c = rw (← c .before .before .read-event .ensures, c .enum-told .given .1)
+returns-2 c kinds names renames hasbutton hasaxis marks = rw (← c .before .before .read-event .ensures, c .enum-told .given .1)
 
 pub insert-event-spec : {M : Type 1} → statement M
 insert-event-spec =

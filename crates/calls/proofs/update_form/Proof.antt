@@ -1,6 +1,10 @@
 -- `calls::update_form` meets its contract: by the refusal.
-use Rattle.calls.specs.Judged.{updateForm, update-refused, update-done}
 use borrow.Author.Needs.{needs}
+use denote.Ref.{now}
+use mathlib.Core.Bool.{true}
+use Rattle.hub.specs.Lent.{listed}
+use Rattle.cells.specs.Settled.{settled-hub}
+use Rattle.calls.specs.Judged.{update-refused, update-done}
 use Rattle.calls.proofs.update_form.Statement.{statement}
 use Rattle.calls.proofs.update_form.Tie as tie
 
@@ -11,25 +15,22 @@ form-refusal-requires : tie.Need-form-refusal-requires
 form-refusal-requires c κs = search needs
 
 returns : tie.Need-returns
-unfolding updateForm
-returns c = rw (← c .before .before .place-of .ensures .is, ← c .before .form-refusal .ensures) (update-refused _ _ _ (c .if1 .taken))
+returns c kinds names renames queuebytes queuecodes =
+    update-refused _ _ (c .before .before .place-of .ensures .is) (c .before .form-refusal .ensures) (c .if1 .taken)
 
 form-event-requires : tie.Need-form-event-requires
 form-event-requires c κs = search needs
 
-code-of-requires : tie.Need-code-of-requires
-code-of-requires c κs = search needs
-
-place-of-requires-2 : tie.Need-place-of-requires-2
-place-of-requires-2 c κs = search needs
-
-updated-requires : tie.Need-updated-requires
-updated-requires c κs = search needs
+settle-requires : tie.Need-settle-requires
+settle-requires c κs = search needs
 
 returns-2 : tie.Need-returns-2
-returns-2 c =
-    update-done _ _ (c .before .before .before .before .before .before .before .before .place-of .ensures .is) (c .before .before .before .before .before .before .before .form-refusal .ensures) (c .before .before .before .before .before .before .if1 .left)
-    (c .before .before .before .before .before .form-event .ensures) (c .before .before .code-of .ensures) (c .before .place-of2 .ensures .is) (c .updated .ensures)
+returns-2 c kinds names renames queuebytes queuecodes =
+    let made = c .before .before .before .before .before .before in
+    let judged = made .before .before in
+    let a = judged .before .before .args in
+    update-done _ _ (judged .before .place-of .ensures .is) (judged .form-refusal .ensures) (made .before .if1 .left) (made .form-event .ensures)
+    (settled-hub (a .head) (listed (now (a .codes)) kinds names renames) queuebytes queuecodes true _ (c .settle .ensures))
 
 pub update-form-spec : {M : Type 1} → statement M
 update-form-spec =
@@ -39,7 +40,5 @@ update-form-spec =
     form-refusal-requires
     returns
     form-event-requires
-    code-of-requires
-    place-of-requires-2
-    updated-requires
+    settle-requires
     returns-2)

@@ -1,47 +1,70 @@
--- `desk::register` meets its contract: by the refusals in their order, and the sheet laid out.
-use Prim.Native.Nat.{ℕ}
-use Rattle.rules.specs.Sheets.{hatsOf, countOf}
-use Rattle.rules.specs.Calls.{registeredAt}
+-- `desk::register` meets its contract: by the refusals in their order, and the sheet laid into the arrays.
+use Prim.Native.Nat.{ℕ, _≤_, _<_}
+use lib.ListN.{length}
+use mathlib.Core.List.{List}
+use mathlib.Core.Path.{_≡_, refl, sym, _∙_}
 use denote.Ref.{now}
 use native.Mathlib.Omega.{arith}
-use mathlib.Core.Path.{_≡_, refl, sym, _∙_, ap}
+use Rattle.rules.specs.Sheets.{sheetRefusal, sheetOpening, hatsOf, countOf}
 use Rattle.layout.specs.Good.{good}
-use Rattle.desk.specs.Calls.{register-full, register-refused, register-served}
+use Rattle.desk.specs.Register.{register-full, register-refused, register-lent}
 use borrow.Author.Needs.{needs}
 use Rattle.desk.proofs.register.Statement.{statement}
 use Rattle.desk.proofs.register.Tie as tie
 
+-- a byte of the opening of a sheet that is not refused
+opening-inside : (s : List ℕ) {number i : ℕ} → number ≡ sheetRefusal s → number ≤ 0 → i < sheetOpening → i < length s
+opening-inside s e none short = omega (arith, good s (sym e ∙ omega arith) .size)
+
 returns : tie.Need-returns
-returns c = register-full (c .before .before .args .h) (now (c .before .before .args .sheet)) (c .if1 .taken)
+returns c renames times queuebytes queuecodes = register-full _ _ (c .if1 .taken)
 
 sheet-refusal-requires : tie.Need-sheet-refusal-requires
 sheet-refusal-requires c κs = search needs
 
 returns-2 : tie.Need-returns-2
-returns-2 c = register-refused (c .before .before .before .before .args .h) (now (c .before .before .before .before .args .sheet)) (c .before .before .if1 .left) (c .before .sheet-refusal .ensures) (c .if2 .taken)
+returns-2 c renames times queuebytes queuecodes =
+    register-refused _ _ (c .before .before .if1 .left) (c .before .sheet-refusal .ensures) (c .if2 .taken)
 
-lay-requires : tie.Need-lay-requires
-lay-requires c κs = search needs
+shared-slice-read-hats : tie.Need-shared-slice-read-hats
+shared-slice-read-hats c = opening-inside _ (c .before .before .sheet-refusal .ensures) (c .before .if2 .left) (omega arith)
 
-shared-slice-read-registered : tie.Need-shared-slice-read-registered
-shared-slice-read-registered c = let none : c .before .before .before .sheet-refusal .result ≡ 0 = omega (arith, c .before .before .if2 .left) in
-    let g = good (now (c .before .before .before .before .before .before .args .sheet)) (sym (c .before .before .before .sheet-refusal .ensures) ∙ none) in
-    omega (arith, g .size)
+shared-slice-read-count : tie.Need-shared-slice-read-count
+shared-slice-read-count c = opening-inside _ (c .before .before .before .sheet-refusal .ensures) (c .before .before .if2 .left) (omega arith)
 
-shared-slice-read-registered-2 : tie.Need-shared-slice-read-registered-2
-shared-slice-read-registered-2 c = let none : c .before .before .before .before .sheet-refusal .result ≡ 0 = omega (arith, c .before .before .before .if2 .left) in
-    let g = good (now (c .before .before .before .before .before .before .before .args .sheet)) (sym (c .before .before .before .before .sheet-refusal .ensures) ∙ none) in
-    omega (arith, g .size)
+wide-requires : tie.Need-wide-requires
+wide-requires c κs = search needs
 
-registered-requires : tie.Need-registered-requires
-registered-requires c κs = search needs
+mul-start : tie.Need-mul-start
+mul-start c = search needs
+
+lay-in-requires : tie.Need-lay-in-requires
+lay-in-requires c κs = search needs
+
+clear-requires : tie.Need-clear-requires
+clear-requires c κs = search needs
+
+clear-requires-2 : tie.Need-clear-requires-2
+clear-requires-2 c κs = search needs
+
+converts-requires : tie.Need-converts-requires
+converts-requires c κs = search needs
+
+with-pad-requires : tie.Need-with-pad-requires
+with-pad-requires c κs = search needs
 
 returns-3 : tie.Need-returns-3
 unfolding hatsOf countOf
-returns-3 c = let h = c .before .before .before .before .before .before .before .before .args .h in
-    let s = now (c .before .before .before .before .before .before .before .before .args .sheet) in
-    register-served h s (c .before .before .before .before .before .before .if1 .left) (c .before .before .before .before .before .sheet-refusal .ensures) (c .before .before .before .before .if2 .left)
-    (c .registered .ensures ∙ ap (registeredAt h (h .pads) (hatsOf s) (countOf s)) (c .before .before .before .lay .ensures))
+returns-3 c renames times queuebytes queuecodes =
+    let cleared = c .before .before .before .before in
+    let laid = cleared .before .before .before .before in
+    let widened = laid .before .before .before .before .before .before in
+    let judged = widened .before .before .before .before in
+    let a = judged .before .before .before .args in
+    register-lent (a .head) (now (a .codes)) (now (a .kinds)) (now (a .names)) renames (now (a .hasbutton)) (now (a .hasaxis)) (now (a .values)) times
+    (now (a .marks)) queuebytes queuecodes (now (a .sheet)) (judged .before .if1 .left) (judged .sheet-refusal .ensures)
+    (widened .before .before .before .if2 .left) refl refl (widened .wide .ensures .0) (laid .lay-in .ensures)
+    (cleared .before .before .clear .ensures) (cleared .clear2 .ensures) (c .before .converts .ensures) (c .with-pad .ensures)
 
 pub register-spec : {M : Type 1} → statement M
 register-spec =
@@ -50,8 +73,13 @@ register-spec =
     returns
     sheet-refusal-requires
     returns-2
-    lay-requires
-    shared-slice-read-registered
-    shared-slice-read-registered-2
-    registered-requires
+    shared-slice-read-hats
+    shared-slice-read-count
+    wide-requires
+    mul-start
+    lay-in-requires
+    clear-requires
+    clear-requires-2
+    converts-requires
+    with-pad-requires
     returns-3)

@@ -30,7 +30,20 @@ first-requires-2 c κs = search needs
 
 returns : tie.Need-returns
 unfolding renameRefusal
-returns c = rw (c .first2 .ensures, c .before .before .before .before .before .before .before .before .before .before .unless-fits .ensures, c .before .before .before .before .before .before .before .before .before .before .before .is-registered .ensures, c .before .first .ensures, c .before .before .before .before .before .before .unless-fits2 .ensures, c .before .before .before .before .before .before .before .pad-bool .ensures, c .before .before .rename-list-refusal .ensures, c .before .before .before .pad-number .ensures)
+returns c s t =
+    let listed = c .before .before in
+    let connected = listed .before .before .before .before in
+    let is-registered = connected .before .before .before .before in
+    rw (
+      c .first2 .ensures,
+      c .before .first .ensures,
+      listed .rename-list-refusal .ensures,
+      listed .before .pad-number .ensures,
+      connected .unless-fits2 .ensures,
+      connected .before .pad-bool .ensures,
+      is-registered .unless-fits .ensures,
+      is-registered .before .is-registered .ensures,
+    )
 
 pub rename-refusal-spec : {M : Type 1} → statement M
 rename-refusal-spec =

@@ -1,6 +1,6 @@
 -- `gather::hat_place` meets its contract: by whether the name is a hat's axis.
 use native.Mathlib.Omega.{arith}
-use Rattle.gather.specs.EventPlaces.{hatPlaceOf}
+use Rattle.rules.specs.Hub.{hatPlaceOf}
 use borrow.Author.Needs.{needs}
 use Rattle.gather.proofs.hat_place.Statement.{statement}
 use Rattle.gather.proofs.hat_place.Tie as tie

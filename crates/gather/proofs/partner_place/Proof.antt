@@ -1,7 +1,7 @@
 -- `gather::partner_place` meets its contract: by whether the axis has a partner.
 use native.Mathlib.Omega.{arith}
 use borrow.Author.Tests.{eq-eqb, ne-eqb}
-use Rattle.gather.specs.EventPlaces.{partnerPlaceOf}
+use Rattle.rules.specs.Hub.{partnerPlaceOf}
 use borrow.Author.Needs.{needs}
 use Rattle.gather.proofs.partner_place.Statement.{statement}
 use Rattle.gather.proofs.partner_place.Tie as tie

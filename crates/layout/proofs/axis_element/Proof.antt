@@ -6,7 +6,7 @@ use mir.Syntax.{w32}
 use mir.Val.{toZ, ofZ}
 use Rattle.numbers.specs.Constants.{withinOf}
 use Rattle.rules.specs.Places.{axisElement}
-use Rattle.layout.specs.Good.{Limits, limits}
+use Rattle.sheets.specs.Laws.{AxisKeeps, axis-keeps}
 use Rattle.layout.proofs.axis_element.Statement.{statement}
 use Rattle.layout.proofs.axis_element.Tie as tie
 
@@ -17,8 +17,8 @@ module _ (c : tie.After-struct-told2) where
   max-read : toZ w32 (ofZ w32 (c .before .before .args .e .max)) ≡ c .before .before .args .e .max
   max-read = toZ-ofZ (record { sfits = c .struct-told2 .given .1 .1 .1 .1 .0 .1 })
 
-  kept : Limits (c .before .before .args .e)
-  kept = limits (c .before .before .args .e) (c .before .before .pre)
+  kept : AxisKeeps (c .before .before .args .e)
+  kept = axis-keeps (c .before .before .args .e) (c .before .before .pre)
 
   min-within : withinOf (toZ w32 (ofZ w32 (c .before .before .args .e .min))) ≡ true
   min-within = ap withinOf min-read ∙ kept .min

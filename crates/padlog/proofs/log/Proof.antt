@@ -10,8 +10,8 @@ use Rattle.padlog.proofs.log.Statement.{statement}
 use Rattle.padlog.proofs.log.Tie as tie
 use Rattle.padlog.proofs.log.Reads as reads
 use Rattle.padlog.proofs.log.Lts as lts
-use Rattle.desk_lent.proofs.new_hub.Reads as new-hub-reads
-use Rattle.desk_lent.proofs.register.Reads as register-reads
+use Rattle.desk.proofs.new_hub.Reads as new-hub-reads
+use Rattle.desk.proofs.register.Reads as register-reads
 use Rattle.lines.proofs.labelled.Reads as labelled-reads
 use Rattle.padlog.proofs.pump_all.Reads as pump-all-reads
 use Rattle.padlog.proofs.sheet_end.Reads as sheet-end-reads

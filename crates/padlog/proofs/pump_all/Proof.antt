@@ -15,7 +15,7 @@ use Rattle.padlog.proofs.pump_all.Lts as lts
 use Rattle.lines.proofs.lines.Reads as lines-reads
 use Rattle.padlog.proofs.last.Reads as last-reads
 use Rattle.padlog.proofs.tally_of.Reads as tally-of-reads
-use Rattle.pump_lent.proofs.pump.Reads as pump-reads
+use Rattle.pump.proofs.pump.Reads as pump-reads
 
 abbrev Inv-loop : tie.InvT-loop
 Inv-loop codes kinds names renames hasbutton₀ hasaxis₀ values₀ times₀ marks₀ queuebytes₀ queuecodes₀ batch out₀ text₀ h₀ place₀ steps₀ at₀ left₀

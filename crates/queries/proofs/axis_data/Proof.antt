@@ -1,6 +1,6 @@
 -- `queries::axis_data` meets its contract: what the calls ensure, put together.
-use Rattle.rules.specs.Queries.{axisByName}
 use borrow.Author.Needs.{needs}
+use Rattle.rules.specs.Queries.{axisByName}
 use Rattle.queries.proofs.axis_data.Statement.{statement}
 use Rattle.queries.proofs.axis_data.Tie as tie
 
@@ -15,7 +15,12 @@ axis-at-requires c κs = search needs
 
 returns : tie.Need-returns
 unfolding axisByName
-returns c = rw (c .axis-at .ensures, c .before .present-place .ensures .is, c .before .before .before .before .before .before .axis-query-refusal .ensures)
+returns c codes kinds queuebytes queuecodes hasbutton marks =
+    rw (
+      c .axis-at .ensures,
+      c .before .present-place .ensures .is,
+      c .before .before .before .before .axis-query-refusal .ensures,
+    )
 
 pub axis-data-spec : {M : Type 1} → statement M
 axis-data-spec =

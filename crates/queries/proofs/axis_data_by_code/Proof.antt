@@ -1,6 +1,6 @@
 -- `queries::axis_data_by_code` meets its contract: what the calls ensure, put together.
-use Rattle.rules.specs.Queries.{axisByCode}
 use borrow.Author.Needs.{needs}
+use Rattle.rules.specs.Queries.{axisByCode}
 use Rattle.queries.proofs.axis_data_by_code.Statement.{statement}
 use Rattle.queries.proofs.axis_data_by_code.Tie as tie
 
@@ -15,7 +15,7 @@ axis-at-requires c κs = search needs
 
 returns : tie.Need-returns
 unfolding axisByCode
-returns c = rw (c .axis-at .ensures, c .before .place-of .ensures .is, c .before .before .before .before .pad-refusal .ensures)
+returns c kinds names renames queuebytes queuecodes hasbutton marks = rw (c .axis-at .ensures, c .before .place-of .ensures .is, c .before .before .pad-refusal .ensures)
 
 pub axis-data-by-code-spec : {M : Type 1} → statement M
 axis-data-by-code-spec =

@@ -1,7 +1,7 @@
 -- `queries::axis_or_btn_name` meets its contract: what the calls ensure, put together.
-use Rattle.queries.specs.Refused.{unless}
-use Rattle.rules.specs.Queries.{nameByCode}
 use borrow.Author.Needs.{needs}
+use Rattle.rules.specs.Queries.{nameByCode}
+use Rattle.queries.specs.Refused.{unless}
 use Rattle.queries.proofs.axis_or_btn_name.Statement.{statement}
 use Rattle.queries.proofs.axis_or_btn_name.Tie as tie
 
@@ -22,7 +22,14 @@ number-requires c κs = search needs
 
 returns : tie.Need-returns
 unfolding nameByCode
-returns c = rw (c .number .ensures, c .before .present-name .ensures, c .before .before .before .before .before .before .place-of .ensures .is, c .before .before .before .before .before .before .before .before .before .pad-refusal .ensures, unless)
+returns c kinds times queuebytes queuecodes hasbutton hasaxis marks values =
+    rw (
+      c .number .ensures,
+      c .before .present-name .ensures,
+      c .before .before .before .before .place-of .ensures .is,
+      c .before .before .before .before .before .pad-refusal .ensures,
+      unless,
+    )
 
 pub axis-or-btn-name-spec : {M : Type 1} → statement M
 axis-or-btn-name-spec =

@@ -1,6 +1,6 @@
 -- `queries::button_data` meets its contract: what the calls ensure, put together.
-use Rattle.rules.specs.Queries.{buttonByName}
 use borrow.Author.Needs.{needs}
+use Rattle.rules.specs.Queries.{buttonByName}
 use Rattle.queries.proofs.button_data.Statement.{statement}
 use Rattle.queries.proofs.button_data.Tie as tie
 
@@ -15,7 +15,12 @@ button-at-requires c κs = search needs
 
 returns : tie.Need-returns
 unfolding buttonByName
-returns c = rw (c .button-at .ensures, c .before .present-place .ensures .is, c .before .before .before .before .before .before .button-query-refusal .ensures)
+returns c codes kinds queuebytes queuecodes hasaxis =
+    rw (
+      c .button-at .ensures,
+      c .before .present-place .ensures .is,
+      c .before .before .before .before .button-query-refusal .ensures,
+    )
 
 pub button-data-spec : {M : Type 1} → statement M
 button-data-spec =

@@ -1,6 +1,6 @@
 -- `queries::button_data_by_code` meets its contract: what the calls ensure, put together.
-use Rattle.rules.specs.Queries.{buttonByCode}
 use borrow.Author.Needs.{needs}
+use Rattle.rules.specs.Queries.{buttonByCode}
 use Rattle.queries.proofs.button_data_by_code.Statement.{statement}
 use Rattle.queries.proofs.button_data_by_code.Tie as tie
 
@@ -15,7 +15,7 @@ button-at-requires c κs = search needs
 
 returns : tie.Need-returns
 unfolding buttonByCode
-returns c = rw (c .button-at .ensures, c .before .place-of .ensures .is, c .before .before .before .before .pad-refusal .ensures)
+returns c kinds names renames queuebytes queuecodes hasaxis = rw (c .button-at .ensures, c .before .place-of .ensures .is, c .before .before .pad-refusal .ensures)
 
 pub button-data-by-code-spec : {M : Type 1} → statement M
 button-data-by-code-spec =

@@ -1,6 +1,6 @@
 -- `queries::code_of_name` meets its contract: what the calls ensure, put together.
-use Rattle.rules.specs.Queries.{codeByName}
 use borrow.Author.Needs.{needs}
+use Rattle.rules.specs.Queries.{codeByName}
 use Rattle.queries.proofs.code_of_name.Statement.{statement}
 use Rattle.queries.proofs.code_of_name.Tie as tie
 
@@ -18,7 +18,13 @@ number-requires c κs = search needs
 
 returns : tie.Need-returns
 unfolding codeByName
-returns c = rw (c .number .ensures, c .before .code-at .ensures, c .before .before .before .before .present-place .ensures .is, c .before .before .before .before .before .before .before .before .before .name-query-refusal .ensures)
+returns c kinds times queuebytes queuecodes hasbutton hasaxis marks values =
+    rw (
+      c .number .ensures,
+      c .before .code-at .ensures,
+      c .before .before .present-place .ensures .is,
+      c .before .before .before .before .before .name-query-refusal .ensures,
+    )
 
 pub code-of-name-spec : {M : Type 1} → statement M
 code-of-name-spec =

@@ -1,6 +1,6 @@
 -- `queries::is_connected` meets its contract: what the calls ensure, put together.
-use Rattle.rules.specs.Queries.{connectedOf}
 use borrow.Author.Needs.{needs}
+use Rattle.rules.specs.Queries.{connectedOf}
 use Rattle.queries.proofs.is_connected.Statement.{statement}
 use Rattle.queries.proofs.is_connected.Tie as tie
 
@@ -15,7 +15,7 @@ truth-requires c κs = search needs
 
 returns : tie.Need-returns
 unfolding connectedOf
-returns c = rw (c .truth .ensures, c .before .pad-bool .ensures, c .before .before .before .before .pad-refusal .ensures)
+returns c s t = rw (c .truth .ensures, c .before .pad-bool .ensures, c .before .before .before .before .pad-refusal .ensures)
 
 pub is-connected-spec : {M : Type 1} → statement M
 is-connected-spec =

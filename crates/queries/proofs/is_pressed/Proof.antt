@@ -1,7 +1,7 @@
 -- `queries::is_pressed` meets its contract: what the calls ensure, put together.
-use Rattle.rules.specs.Queries.{pressedByName, buttonPlace}
-use Rattle.queries.specs.Button.{buttonPlaceOf}
 use borrow.Author.Needs.{needs}
+use Rattle.rules.specs.Queries.{pressedByName, buttonPlaceOf}
+use Rattle.rules.specs.Hub.{pressedAt}
 use Rattle.queries.proofs.is_pressed.Statement.{statement}
 use Rattle.queries.proofs.is_pressed.Tie as tie
 
@@ -15,8 +15,13 @@ pressed-at-requires : tie.Need-pressed-at-requires
 pressed-at-requires c κs = search needs
 
 returns : tie.Need-returns
-unfolding pressedByName buttonPlace buttonPlaceOf
-returns c = rw (c .pressed-at .ensures, c .before .button-place .ensures .is, c .before .before .before .before .before .before .before .button-query-refusal .ensures)
+unfolding pressedByName buttonPlaceOf pressedAt
+returns c kinds queuebytes queuecodes hasaxis =
+    rw (
+      c .pressed-at .ensures,
+      c .before .button-place .ensures .is,
+      c .before .before .before .before .button-query-refusal .ensures,
+    )
 
 pub is-pressed-spec : {M : Type 1} → statement M
 is-pressed-spec =

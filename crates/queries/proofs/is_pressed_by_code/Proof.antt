@@ -1,6 +1,7 @@
 -- `queries::is_pressed_by_code` meets its contract: what the calls ensure, put together.
-use Rattle.rules.specs.Queries.{pressedByCode}
 use borrow.Author.Needs.{needs}
+use Rattle.rules.specs.Queries.{pressedByCode}
+use Rattle.rules.specs.Hub.{pressedAt}
 use Rattle.queries.proofs.is_pressed_by_code.Statement.{statement}
 use Rattle.queries.proofs.is_pressed_by_code.Tie as tie
 
@@ -14,8 +15,8 @@ pressed-at-requires : tie.Need-pressed-at-requires
 pressed-at-requires c κs = search needs
 
 returns : tie.Need-returns
-unfolding pressedByCode
-returns c = rw (c .pressed-at .ensures, c .before .place-of .ensures .is, c .before .before .before .before .pad-refusal .ensures)
+unfolding pressedByCode pressedAt
+returns c kinds names renames queuebytes queuecodes hasaxis = rw (c .pressed-at .ensures, c .before .place-of .ensures .is, c .before .before .pad-refusal .ensures)
 
 pub is-pressed-by-code-spec : {M : Type 1} → statement M
 is-pressed-by-code-spec =

@@ -1,6 +1,7 @@
 -- `queries::value` meets its contract: what the calls ensure, put together.
-use Rattle.rules.specs.Queries.{valueByName}
 use borrow.Author.Needs.{needs}
+use Rattle.rules.specs.Queries.{valueByName}
+use Rattle.rules.specs.Hub.{valueAt}
 use Rattle.queries.proofs.value.Statement.{statement}
 use Rattle.queries.proofs.value.Tie as tie
 
@@ -14,8 +15,13 @@ value-at-requires : tie.Need-value-at-requires
 value-at-requires c κs = search needs
 
 returns : tie.Need-returns
-unfolding valueByName
-returns c = rw (c .value-at .ensures, c .before .present-place .ensures .is, c .before .before .before .before .before .before .axis-query-refusal .ensures)
+unfolding valueByName valueAt
+returns c codes kinds queuebytes queuecodes =
+    rw (
+      c .value-at .ensures,
+      c .before .present-place .ensures .is,
+      c .before .before .before .before .axis-query-refusal .ensures,
+    )
 
 pub value-spec : {M : Type 1} → statement M
 value-spec =

@@ -1,6 +1,7 @@
 -- `queries::value_by_code` meets its contract: what the calls ensure, put together.
-use Rattle.rules.specs.Queries.{valueByCode}
 use borrow.Author.Needs.{needs}
+use Rattle.rules.specs.Queries.{valueByCode}
+use Rattle.rules.specs.Hub.{valueAt}
 use Rattle.queries.proofs.value_by_code.Statement.{statement}
 use Rattle.queries.proofs.value_by_code.Tie as tie
 
@@ -14,8 +15,8 @@ value-at-requires : tie.Need-value-at-requires
 value-at-requires c κs = search needs
 
 returns : tie.Need-returns
-unfolding valueByCode
-returns c = rw (c .value-at .ensures, c .before .place-of .ensures .is, c .before .before .before .before .pad-refusal .ensures)
+unfolding valueByCode valueAt
+returns c kinds names renames queuebytes queuecodes = rw (c .value-at .ensures, c .before .place-of .ensures .is, c .before .before .pad-refusal .ensures)
 
 pub value-by-code-spec : {M : Type 1} → statement M
 value-by-code-spec =

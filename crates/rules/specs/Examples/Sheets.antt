@@ -6,8 +6,7 @@ use mathlib.Core.List.{List, [], _∷_, _++_}
 use lib.ListN.{set, take}
 use lib.IntN.{ℤ, pos, negsuc}
 use Rattle.rules.specs.declared.SheetElement.{SheetElement}
-use Rattle.rules.specs.declared.SheetRead.the-variants as sheetRead
-use Rattle.rules.specs.Sheets.{sheetFits, sheetRefusal, readSheet, elementOf, sheetBytes, renameListRefusal}
+use Rattle.rules.specs.Sheets.{sheetFits, sheetRefusal, hatsOf, countOf, elementOf, sheetBytes, renameListRefusal}
 use Rattle.rules.specs.Examples.Table.{_is_, Right, button, axis}
 
 -- ---- the bytes: "count, version, hats 0..15, n, then n elements: code 4, kind 1, name 1, min 4, max 4, deadzone 4"
@@ -20,16 +19,16 @@ sheet-written : sheetBytes 15 (axis 0x00030010 39 (negsuc 0) (pos 1) 0xffffffff 
 unfolding sheetBytes hatBytes
 sheet-written = refl
 
-sheet-reads : readSheet hatBytes ≡ sheetRead.Sheet 15 1
-unfolding readSheet hatBytes
+sheet-reads : Right (sheetRefusal hatBytes is 0 ∷ hatsOf hatBytes is 15 ∷ countOf hatBytes is 1 ∷ [])
+unfolding sheetRefusal hatsOf countOf hatBytes
 sheet-reads = refl
 
 element-reads : elementOf hatBytes 0 ≡ axis 0x00030010 39 (negsuc 0) (pos 1) 0xffffffff
 unfolding elementOf hatBytes
 element-reads = refl
 
-sheet-refused : readSheet (set hatBytes 3 16) ≡ sheetRead.Refused 4
-unfolding readSheet hatBytes
+sheet-refused : sheetRefusal (set hatBytes 3 16) ≡ 4
+unfolding sheetRefusal hatBytes
 sheet-refused = refl
 
 -- n unnamed buttons, their codes rising

@@ -17,7 +17,7 @@ use Rattle.rules.specs.declared.AxisAnswer.the-variants as axisAnswer
 use Rattle.rules.specs.Names.{codeUp, codeRight, dpadRight, dpadX}
 use Rattle.rules.specs.Sheets.{sheetBytes}
 use Rattle.rules.specs.Calls.{registerOf, insertOf, incOf, renameOf}
-use Rattle.rules.specs.Hub.{convertsNow, hatsNow, hasButtonAt, hasAxisAt}
+use Rattle.rules.specs.Hub.{convertsIn, convertsNow, hatsNow, hasButtonAt, hasAxisAt}
 use Rattle.rules.specs.Step.{headAfter}
 use Rattle.rules.specs.Queries.{pressedByCode, connectedOf, buttonByCode, axisByCode, nameByCode}
 use Rattle.rules.specs.declared.NumberAnswer.the-variants as numberAnswer
@@ -219,7 +219,7 @@ renamed = renameOf hatted 0 (19 ∷ 40 ∷ []) .hub
 
 converts :
     Right (convertsNow hatted 0 is true ∷ convertsNow renamed 0 is false ∷ convertsNow (after renamed (connect 7)) 0 is true ∷ [])
-unfolding hatted renamed bare registerOf sheetBytes renameOf after raw convertsNow
+unfolding hatted renamed bare registerOf sheetBytes renameOf after raw convertsIn
 converts = refl
 
 hats : Right (hatsNow hatted 0 is 15 ∷ hatsNow renamed 0 is 0 ∷ hatsNow (after renamed (connect 7)) 0 is 15 ∷ [])

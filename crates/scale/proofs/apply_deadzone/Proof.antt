@@ -5,7 +5,7 @@ use lib.Dec.{T}
 use lib.Ieee.{binary32, fits}
 use borrow.Author.Needs.{needs}
 use Rattle.numbers.specs.Deadzone.{deadzoneOf}
-use Rattle.finite.specs.Unmoved.{unmoved}
+use Rattle.theory_arithmetic.specs.Unmoved.{unmoved}
 use Rattle.scale.proofs.apply_deadzone.Statement.{statement}
 use Rattle.scale.proofs.apply_deadzone.Tie as tie
 

@@ -4,7 +4,7 @@ use mathlib.Core.Path.{_≡_, sym, _∙_, ap, ap₂}
 use lib.Signed.{ltZ}
 use borrow.Author.Tests.{not-true, not-false}
 use Rattle.numbers.specs.Constants.{withinOf}
-use Rattle.sheets.proofs.Elements.{reread, axis-min, axis-max, axis-empty, axis-deadzone, axis-absent}
+use Rattle.sheets.proofs.Elements.{reread, axis-min, axis-max, axis-empty, axis-deadzone}
 use Rattle.sheets.proofs.axis_fits.Statement.{statement}
 use Rattle.sheets.proofs.axis_fits.Tie as tie
 
@@ -44,15 +44,17 @@ returns-3 : tie.Need-returns-3
 returns-3 c = axis-empty (c .before .before .before .before .before .before .before .before .before .before .args .e) (sym (min-within (c .before .before .before .before .before .before .before .before)) ∙ not-false _ (c .before .before .before .before .before .before .before .if1 .left))
     (sym (max-within (c .before .before .before .before .before)) ∙ not-false _ (c .before .before .before .before .if2 .left)) (sym (rising (c .before)) ∙ not-true _ (c .if3 .taken))
 
-returns-4 : tie.Need-returns-4
-returns-4 c = axis-deadzone (c .before .before .before .before .before .before .before .before .before .before .before .before .args .e) (sym (min-within (c .before .before .before .before .before .before .before .before .before .before)) ∙ not-false _ (c .before .before .before .before .before .before .before .before .before .if1 .left))
-    (sym (max-within (c .before .before .before .before .before .before .before)) ∙ not-false _ (c .before .before .before .before .before .before .if2 .left))
-    (sym (rising (c .before .before .before)) ∙ not-false _ (c .before .before .if3 .left)) (c .if4 .taken)
+deadzone-within-requires : tie.Need-deadzone-within-requires
+deadzone-within-requires c κs = search needs
 
-returns-5 : tie.Need-returns-5
-returns-5 c = axis-absent (c .before .before .before .before .before .before .before .before .before .before .before .before .before .args .e) (sym (min-within (c .before .before .before .before .before .before .before .before .before .before .before)) ∙ not-false _ (c .before .before .before .before .before .before .before .before .before .before .if1 .left))
-    (sym (max-within (c .before .before .before .before .before .before .before .before)) ∙ not-false _ (c .before .before .before .before .before .before .before .if2 .left))
-    (sym (rising (c .before .before .before .before)) ∙ not-false _ (c .before .before .before .if3 .left)) (c .before .if4 .left)
+returns-4 : tie.Need-returns-4
+returns-4 c =
+    let rises = c .before in
+    let below = rises .before .before .before .before in
+    let above = below .before .before .before in
+    c .deadzone-within .ensures
+    ∙ axis-deadzone (above .before .before .before .args .e) (sym (min-within (above .before)) ∙ not-false _ (above .if1 .left))
+    (sym (max-within (below .before)) ∙ not-false _ (below .if2 .left)) (sym (rising (rises .before)) ∙ not-false _ (rises .if3 .left))
 
 pub axis-fits-spec : {M : Type 1} → statement M
 axis-fits-spec =
@@ -64,5 +66,5 @@ axis-fits-spec =
     returns-2
     below-requires
     returns-3
-    returns-4
-    returns-5)
+    deadzone-within-requires
+    returns-4)

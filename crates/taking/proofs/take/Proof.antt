@@ -5,6 +5,7 @@ use denote.Ref.{now}
 use native.Mathlib.Omega.{arith}
 use Rattle.rules.specs.declared.Hub.{Hub}
 use Rattle.columns.specs.Columns.{elementsOf, buttonsOf, slotsOf}
+use Rattle.rules.specs.Calls.{freshHub}
 use Rattle.taking.specs.Taking.{takingHub, takes-front, takes-none, takes-within, takes-whole, takes-record}
 use Rattle.taking.proofs.take.Statement.{statement}
 use Rattle.taking.proofs.take.Tie as tie
@@ -113,6 +114,7 @@ add-after c =
     omega (arith, looked j .before .before)
 
 returns-3 : tie.Need-returns-3
+unfolding freshHub
 returns-3 c =
     let d = c .before .before in
     let j = judged d in

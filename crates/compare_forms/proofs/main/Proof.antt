@@ -1,0 +1,55 @@
+-- `compare_forms::main` is safe and ends: the turns are counted down from a number that no run uses up.
+use mathlib.Core.Path.{_≡_}
+use lib.ListN.{length}
+use borrow.Author.Needs.{needs}
+use Rattle.compare_forms.proofs.main.Statement.{statement}
+use Rattle.compare_forms.proofs.main.Tie as tie
+
+abbrev Inv-loop : tie.InvT-loop
+Inv-loop room₀ turns₀ room turns = length room ≡ 4096
+
+abbrev μ-loop : tie.MeasureT-loop
+μ-loop room₀ turns₀ room turns = turns
+
+buffer-requires : tie.Need-buffer-requires Inv-loop μ-loop
+buffer-requires c κs = search needs
+
+loop-holds : tie.Need-loop-holds Inv-loop μ-loop
+loop-holds c = search needs
+
+slice-aggregate-next-case : tie.Need-slice-aggregate-next-case Inv-loop μ-loop
+slice-aggregate-next-case c = search needs
+
+next-case-requires : tie.Need-next-case-requires Inv-loop μ-loop
+next-case-requires c κs = search needs
+
+sub-turns : tie.Need-sub-turns Inv-loop μ-loop
+sub-turns c = search needs
+
+loop-less : tie.Need-loop-less Inv-loop μ-loop
+loop-less c = search needs
+
+loop-again : tie.Need-loop-again Inv-loop μ-loop
+loop-again c = search needs
+
+returns : tie.Need-returns Inv-loop μ-loop
+returns c = search needs
+
+returns-2 : tie.Need-returns-2 Inv-loop μ-loop
+returns-2 c = search needs
+
+pub main-spec : {M : Type 1} → statement M
+main-spec =
+    tie.close
+    (tie.spec
+    Inv-loop
+    μ-loop
+    buffer-requires
+    loop-holds
+    slice-aggregate-next-case
+    next-case-requires
+    sub-turns
+    loop-less
+    loop-again
+    returns
+    returns-2)

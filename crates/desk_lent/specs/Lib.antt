@@ -1,4 +1,0 @@
-pub mod Heads
-pub mod Fresh
-pub mod Register
-pub mod Rename

@@ -1,1 +1,0 @@
-// Theorems about the deadzone's answers, in specs/. No function.

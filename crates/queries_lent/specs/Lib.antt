@@ -1,2 +1,0 @@
-pub mod Button
-pub mod Refused

@@ -1,3 +1,0 @@
-pub mod Proper
-pub mod Deadzone
-pub mod Trigger

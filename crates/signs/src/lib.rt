@@ -1,1 +1,0 @@
-// Theorems about the values that have no sign, in specs/. No function.

@@ -1,0 +1,1 @@
+// Theorems about the definitions of `numbers`; the files stand in specs/, and there is no function.
