@@ -229,29 +229,6 @@ fn listed(kind: u8) -> bool
     kind != 0
 }
 
-// The column of the names that hold after a rename of a pad.
-pub fn rename(renames: [u8; 208], kinds: [u8; 208], pad: u8, list: &[u8]) -> [u8; 208]
-    ensures { λ r. ⌜ r ≡ renamesAfter renames kinds (now (list .entry)) placesPerPad (placesPerPad * pad) 0 ⌝ }
-{
-    let mut column = renames;
-    let mut place = PLACES_PER_PAD * pad as usize;
-    let mut i: usize = 0;
-    let mut left = PLACES_PER_PAD;
-    while 0 < left {
-        if 208 <= place {
-            return column;
-        }
-        let kind = kinds[place];
-        let name = name_given(kind, list, i);
-        let element = one_if(listed(kind)) as usize;
-        column[place] = name;
-        place = place + 1;
-        i = i + element;
-        left = left - 1;
-    }
-    column
-}
-
 // The length of a lent array is known once it is lent on as a slice. These calls leave no code.
 
 fn bytes_in(s: &[u8]) -> usize

@@ -1,6 +1,5 @@
 pub mod Runs
 pub mod Records
-pub mod Pushes
 pub mod Turns
 pub mod Updates
 pub mod Parts

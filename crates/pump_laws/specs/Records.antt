@@ -1,10 +1,10 @@
 -- What holds of a record that a step takes: its value is in 01's limits, and it lies whole in the batch. By the refusal that is 0.
-use Prim.Native.Nat.{ℕ, zero, suc, _+_, _-_, _≤_, _<_}
+use Prim.Native.Nat.{ℕ, _-_, _≤_, _<_}
 use mathlib.Core.Path.{_≡_, refl, sym, _∙_, ap}
 use mathlib.Core.Bool.{Bool, true, false, cond, _&&_}
 use mathlib.Core.List.{List}
 use lib.ListN.{length}
-use lib.Dec.{eqb, ltb, leb}
+use lib.Dec.{eqb, ltb}
 use native.Mathlib.Omega.{arith}
 use borrow.Author.Tests.{leb-true, eqb-true, eqb-false}
 use Rattle.numbers.specs.Constants.{withinOf}
@@ -14,7 +14,6 @@ use Rattle.rules.specs.Forms.{recordSize, recordFits, recordFields, readRecord,
 use Rattle.rules.specs.Refusals.{recordRefusal, fieldsRefusal, elementRefusal, isRegistered, timeFits, first, unlessFits}
 use Rattle.rules.specs.Places.{placeOf}
 use Rattle.rules.specs.Step.{nextRecordOf, nextRecordBy, recordKind, stepRefusal}
-use Rattle.rules.specs.Pump.{placeAfter}
 use Rattle.rules.specs.declared.Hub.{Hub}
 use Rattle.gather.specs.declared.Found.{Found}
 use Rattle.gather.specs.EventPlaces.{foundAt}
@@ -49,20 +48,7 @@ taken l pads kind h =
     let n = all-none (unlessFits (l .fits) 8) (unlessFits (isRegistered pads (l .raw .pad)) 6) (elementRefusal (l .raw .kind) kind) (unlessFits (withinOf (l .raw .value)) 11) (unlessFits (timeFits (l .raw .time)) 12) h in
     record { fits = fits-unless (l .fits) 8 (omega arith) (n .0); within = fits-unless (withinOf (l .raw .value)) 11 (omega arith) (n .1) }
 
--- the step's refusal, as the code has it
-abbrev refusalBy : Bool → NextRecord → ℕ → ℕ → ℕ
-refusalBy waits l pads kind = cond waits 0 (recordRefusal l pads kind)
-
-looked-within : (waits : Bool) (r : NextRecord) (pads kind : ℕ) (blank : NextRecord) → withinOf (blank .raw .value) ≡ true → refusalBy waits (cond waits blank r) pads kind ≤ 0 → withinOf (cond waits blank r .raw .value) ≡ true
-looked-within true r pads kind blank e h = e
-looked-within false r pads kind blank e h = taken r pads kind h .within
-
--- what is taken can be scaled
-pub taken-within : (waiting : ℕ) (s : List ℕ) (at pads kind : ℕ) {l : NextRecord} {number : ℕ} → l ≡ nextRecordOf waiting s at → number ≡ cond (ltb 0 waiting) 0 (recordRefusal l pads kind) → number ≤ 0 → withinOf (l .raw .value) ≡ true
-unfolding nextRecordOf withinOf
-taken-within waiting s at pads kind el en z = rw el (looked-within (ltb 0 waiting) (nextRecordBy (readRecord s at)) pads kind _ refl (rw el at (rw en at z)))
-
--- ---- the place after a step lies in the batch
+-- ---- a record that fits lies whole in the batch
 
 fits-by : (b : Bool) (r : RawRecord) → nextRecordBy (pickRecord b r) .fits ≡ b
 fits-by true r = refl
@@ -75,14 +61,6 @@ both-true false b e = e
 pub whole : (s : List ℕ) (at : ℕ) → nextRecordBy (readRecord s at) .fits ≡ true → recordSize ≤ length s - at
 unfolding readRecord recordFits
 whole s at e = leb-true recordSize (length s - at) (both-true _ _ (sym (fits-by (recordFits s at) (recordFields s at)) ∙ e))
-
-place-by : (waits : Bool) (s : List ℕ) (at pads kind : ℕ) (blank : NextRecord) → at ≤ length s → refusalBy waits (cond waits blank (nextRecordBy (readRecord s at))) pads kind ≤ 0 → cond waits at (at + recordSize) ≤ length s
-place-by true s at pads kind blank h z = h
-place-by false s at pads kind blank h z = let w = whole s at (taken (nextRecordBy (readRecord s at)) pads kind z .fits) in omega arith
-
-pub place-small : (waiting : ℕ) (s : List ℕ) (at pads kind : ℕ) {l : NextRecord} {number place : ℕ} → l ≡ nextRecordOf waiting s at → number ≡ cond (ltb 0 waiting) 0 (recordRefusal l pads kind) → number ≤ 0 → place ≡ placeAfter waiting at → at ≤ length s → place ≤ length s
-unfolding nextRecordOf placeAfter
-place-small waiting s at pads kind el en z ep h = rw ep (place-by (ltb 0 waiting) s at pads kind _ h (rw el at (rw en at z)))
 
 -- ---- the refusal that the code worked out is the step's
 

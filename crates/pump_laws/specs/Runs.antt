@@ -1,23 +1,21 @@
 -- How a run goes from where it stands: it stops, it refuses the next record, or it makes a step. By the verdict, which the code works out in two tests.
-use Prim.Native.Nat.{ℕ, zero, suc, _+_, _-_, _*_, _≤_, _<_}
+use Prim.Native.Nat.{ℕ, zero, suc, _-_, _*_, _≤_, _<_}
 use mathlib.Core.Path.{_≡_, refl, sym, _∙_, ap}
-use mathlib.Core.Bool.{Bool, true, false, cond, not, _&&_, _||_}
+use mathlib.Core.Bool.{Bool, true, false, cond, _&&_, _||_}
 use mathlib.Core.List.{List}
 use lib.ListN.{length}
 use lib.Dec.{eqb, ltb}
 use native.Mathlib.Omega.{arith}
-use borrow.Author.Tests.{lt-ltb, le-ltb, ltb-false, eqb-false, leb-true}
-use Rattle.numbers.specs.Constants.{withinOf}
+use borrow.Author.Tests.{ltb-false}
 use Rattle.rules.specs.declared.Hub.{Hub}
-use Rattle.rules.specs.declared.NextRecord.{NextRecord}
 use Rattle.rules.specs.declared.Pumped.{Pumped}
 use Rattle.rules.specs.declared.PumpAnswer.{PumpAnswer}
 use Rattle.rules.specs.declared.PumpAnswer.the-variants as pumpAnswer
 use Rattle.rules.specs.Names.{bufferLimit}
-use Rattle.rules.specs.Forms.{recordSize, eventSize}
-use Rattle.rules.specs.Refusals.{pumpRefusal, recordRefusal, fieldsRefusal, first, unlessFits}
+use Rattle.rules.specs.Forms.{eventSize}
+use Rattle.rules.specs.Refusals.{pumpRefusal}
 use Rattle.rules.specs.Step.{nextRecordOf, stepRefusal}
-use Rattle.rules.specs.Pump.{Progress, Run, Verdict, going, stopping, refusing, verdictBy, verdictOf, stopOf, stopAnswer, ended, endedBy, stepped, runOf, startOf, pumpBy, pumpOf, placeAfter}
+use Rattle.rules.specs.Pump.{Progress, Run, Verdict, going, stopping, refusing, verdictBy, verdictOf, stopOf, stopAnswer, ended, endedBy, stepped, runOf, startOf, pumpBy, pumpOf}
 
 -- what a call leaves: its answer with the hub, and the out buffer
 abbrev pub leaves : Pumped → List ℕ → Run

@@ -1,36 +1,28 @@
 -- What a turn of the pump's loop gathers, decides and commits is the law book's step. One law for each stage, over plain variables: the marks of a taken
 -- record, what is taken, what the filters make of it; and the step put together, for an event that is dropped and for one
 -- that is kept.
-use Prim.Native.Nat.{ℕ, zero, suc, _+_, _-_, _*_, _%_, _≤_, _<_}
+use Prim.Native.Nat.{ℕ, _+_, _-_, _*_, _%_}
 use mathlib.Core.Path.{_≡_, refl, sym, _∙_, ap}
 use mathlib.Core.Bool.{Bool, true, false, cond}
-use mathlib.Core.List.{List, [], _∷_}
-use lib.ListN.{getD, set}
-use lib.Dec.{ltb}
+use mathlib.Core.List.{List}
+use lib.ListN.{getD}
 use native.Mathlib.Nat.{add-zero}
-use native.Mathlib.Omega.{arith}
 use Rattle.rules.specs.declared.Hub.{Hub}
 use Rattle.rules.specs.declared.Event.{Event}
 use Rattle.rules.specs.declared.RawRecord.{RawRecord}
 use Rattle.rules.specs.declared.NextRecord.{NextRecord}
 use Rattle.rules.specs.declared.Dispatched.{Dispatched}
-use Rattle.rules.specs.declared.Gives.{Gives}
 use Rattle.rules.specs.declared.Filtered.{Filtered}
-use Rattle.rules.specs.declared.Flags.{Flags}
-use Rattle.rules.specs.declared.View.{View}
-use Rattle.rules.specs.Names.{placesPerPad, flagsPerPad, queueRoom, partnerOf}
+use Rattle.rules.specs.Names.{placesPerPad, flagsPerPad, queueRoom}
 use Rattle.rules.specs.Places.{placeOf, clearedOf, oneIf}
-use Rattle.rules.specs.Events.{nameOf, codeOf}
-use Rattle.rules.specs.Filters.{filteredOf, keptOf}
+use Rattle.rules.specs.Filters.{keptOf}
 use Rattle.rules.specs.Setters.{withMarks, withState, withFlags, withQueue}
-use Rattle.rules.specs.Hub.{viewAt, viewOf, frontOf, flagPlace, pressedAt, elementAt, buttonAt, axisAt, pastSlot, pastElement, pastButton, pastAxis}
-use Rattle.rules.specs.Step.{nextRecordOf, takenOf, recordGives, markedOf, connectedAfter, renamedAfter, marksCleared, headAfter, pushesOf, flagsSet, pushedOf, filteredIn, filteredHub, stepEvent, stepHub, updatedOf}
+use Rattle.rules.specs.Hub.{frontOf, pressedAt, pastSlot, pastElement, pastButton}
+use Rattle.rules.specs.Step.{nextRecordOf, takenOf, recordGives, markedOf, connectedAfter, renamedAfter, marksCleared, headAfter, pushedOf, filteredIn, filteredHub, stepEvent, stepHub, updatedOf}
 use Rattle.rules.specs.Pump.{Progress, stepped, steppedBy, placeAfter, outAfter}
 use Rattle.gather.specs.declared.Found.{Found}
-use Rattle.gather.specs.declared.EventPlaces.{EventPlaces}
-use Rattle.gather.specs.EventPlaces.{EventPlacesAre, foundAt, eventPlacesAt, viewBy, view-is}
+use Rattle.gather.specs.EventPlaces.{foundAt}
 use Rattle.turn.specs.Turn.{takenBy}
-use Rattle.pump_laws.specs.Pushes.{queuedHub}
 use Rattle.pump_laws.specs.Runs.{standing}
 use Rattle.pump_laws.specs.Updates.{dropped-same}
 
@@ -66,42 +58,6 @@ pub taken-is :
 unfolding takenOf takenBy recordGives frontOf foundAt pressedAt
 taken-is h l ef er ed = rw (ed, er, ef)
 
--- ---- what the filters make of it, and the queue after
-
-view-named : (m : Hub) (e : Event) {name code : ℕ} → name ≡ nameOf e → code ≡ codeOf e → viewAt m (e .pad) name (placeOf (m .codes) (e .pad) code) ≡ viewOf m e
-unfolding viewOf
-view-named m e {name} {code} en ec =
-    ap (λ (n : ℕ). viewAt m (e .pad) n (placeOf (m .codes) (e .pad) code)) en
-    ∙ ap (λ (c : ℕ). viewAt m (e .pad) (nameOf e) (placeOf (m .codes) (e .pad) c)) ec
-
-filtered-by : (m : Hub) (e : Event) {v : View} → v ≡ viewOf m e → filteredOf (m .filters) v e ≡ filteredIn m e
-unfolding filteredIn
-filtered-by m e ev = ap (λ (w : View). filteredOf (m .filters) w e) ev
-
-module _ (m : Hub) (d : Dispatched) {name code : ℕ} {s : EventPlaces} {v : View} {f : Filtered} (en : name ≡ nameOf (d .event)) (ec : code ≡ codeOf (d .event))
-    (seen : EventPlacesAre (m .codes) (m .kinds) (m .names) (m .renames) (m .renamed) (m .converts) (m .newconverts) (m .hasbutton) (m .hasaxis) (m .flags) (d .event .pad) name code s)
-    (ev : v ≡ viewBy s (getD (m .elements) (s .own .place) pastElement) (getD (m .buttons) (s .own .place) pastButton) (getD (m .axes) (s .own .place) pastAxis) (getD (m .buttons) (s .positive .place) pastButton) (getD (m .buttons) (s .negative .place) pastButton) (getD (m .buttons) (s .partner .place) pastButton) (getD (m .axes) (s .partner .place) pastAxis))
-    (ef : f ≡ filteredOf (m .filters) v (d .event)) where
-  pub filtered-is : f ≡ filteredIn m (d .event)
-  filtered-is = ef ∙ filtered-by m (d .event) (ev ∙ view-is m (d .event .pad) name code s seen ∙ view-named m (d .event) en ec)
-
-  flags-at : {flagged both : List Bool} → flagged ≡ set (m .flags) (s .flag) (f .flags .own) → both ≡ set flagged (s .other) (f .flags .partner) → both ≡ flagsSet (m .flags) (d .event .pad) (nameOf (d .event)) (f .flags)
-  unfolding flagsSet eventPlacesAt
-  flags-at e1 e2 = rw (e2, e1, seen .is, en)
-
-  pub turned-is :
-      {flagged both : List Bool} {u : Hub} {es : List Event} →
-      flagged ≡ set (m .flags) (s .flag) (f .flags .own) →
-      both ≡ set flagged (s .other) (f .flags .partner) →
-      es ≡ pushesOf d (f .gives) →
-      u
-      ≡ queuedHub
-      (withFlags m both)
-      es →
-      u ≡ filteredHub m d
-  unfolding filteredHub pushedOf queuedHub
-  turned-is e1 e2 e3 eu = rw (eu, e3, flags-at e1 e2, filtered-is)
-
 -- ---- the step
 
 -- what a turn has worked out before its event is kept or dropped
@@ -126,47 +82,6 @@ turned h l {m} {u} {d} {f} {z} em ed ef ez eu =
           ∙ ap (λ (x : Filtered). x .gives .event)
           (ef ∙ ap (λ (x : Hub). filteredIn x (d .event)) em ∙ ap (λ (x : Dispatched). filteredIn (markedOf h (l .raw)) (x .event)) ed);
     }
-
--- the whole turn, from what each call of it answers
-pub turn-is :
-    (h : Hub) (l : NextRecord) {p marks flags head waiting front name code : ℕ} {connected renamed hasbutton hasaxis flagged first both : List Bool} {found : Found}
-    {d : Dispatched} {s : EventPlaces} {v : View} {f : Filtered} {sent : Flags} {z : Event} {u : Hub} {es : List Event} →
-    found ≡ foundAt (h .kinds) (h .names) (h .renames) (h .renamed) (h .hasbutton) (l .raw .pad) (placeOf (h .codes) (l .raw .pad) (l .raw .code)) →
-    front ≡ h .head % queueRoom →
-    d ≡ takenBy (h .waiting) (getD (h .queue) front pastSlot) (l .raw) found (getD (h .elements) (found .place) pastElement) (getD (h .buttons) (found .place) pastButton) (h .pressed) (h .released) (h .reversed) →
-    p ≡ l .raw .pad →
-    marks ≡ marksCleared (l .raw .kind) placesPerPad →
-    flags ≡ marksCleared (l .raw .kind) flagsPerPad →
-    connected ≡ connectedAfter (h .connected) (l .raw .pad) (l .raw .kind) →
-    renamed ≡ renamedAfter (h .renamed) (l .raw .pad) (l .raw .kind) →
-    hasbutton ≡ clearedOf (h .hasbutton) (placesPerPad * p) marks →
-    hasaxis ≡ clearedOf (h .hasaxis) (placesPerPad * p) marks →
-    flagged ≡ clearedOf (h .flags) (flagsPerPad * p) flags →
-    head ≡ headAfter (h .head) (h .waiting) →
-    waiting ≡ h .waiting - 1 →
-    name ≡ nameOf (d .event) →
-    code ≡ codeOf (d .event) →
-    EventPlacesAre (h .codes) (h .kinds) (h .names) (h .renames) renamed (h .converts) (h .newconverts) hasbutton hasaxis flagged (d .event .pad) name code s →
-    v ≡ viewBy s (getD (h .elements) (s .own .place) pastElement) (getD (h .buttons) (s .own .place) pastButton) (getD (h .axes) (s .own .place) pastAxis) (getD (h .buttons) (s .positive .place) pastButton) (getD (h .buttons) (s .negative .place) pastButton) (getD (h .buttons) (s .partner .place) pastButton) (getD (h .axes) (s .partner .place) pastAxis) →
-    f ≡ filteredOf (h .filters) v (d .event) →
-    sent ≡ f .flags →
-    first ≡ set flagged (s .flag) (sent .own) →
-    both ≡ set first (s .other) (sent .partner) →
-    z ≡ f .gives .event →
-    es ≡ pushesOf d (f .gives) →
-    u
-    ≡ queuedHub
-    (withQueue (withFlags (withState (withMarks h connected renamed) hasbutton (h .buttons) hasaxis (h .axes)) both) (h .queue) head waiting)
-    es →
-    Turned h l u z
-turn-is h l {head = head} {waiting = waiting} {connected = connected} {renamed = renamed} {hasbutton = hasbutton} {hasaxis = hasaxis} {flagged = flagged} {first = first} {d = d} {s = s} {v = v} {f = f} efound efront ed ep em eg ec er et ev ef eh ew en eo seen ein efil esent e1 e2 ez es eu =
-    turned h l (marked-is h (l .raw) ep em eg ec er et ev ef eh ew) (taken-is h l efound efront ed) (filtered-is marked d en eo seen ein efil) ez
-    (turned-is marked d en eo seen ein efil (e1 ∙ ap (λ (x : Flags). set flagged (s .flag) (x .own)) esent)
-    (e2 ∙ ap (λ (x : Flags). set first (s .other) (x .partner)) esent) es eu)
-  where
-    marked : Hub
-    marked =
-        withQueue (withFlags (withState (withMarks h connected renamed) hasbutton (h .buttons) hasaxis (h .axes)) flagged) (h .queue) head waiting
 
 same-filters : (h : Hub) (r : RawRecord) (d : Dispatched) → filteredHub (markedOf h r) d .filters ≡ h .filters
 unfolding filteredHub pushedOf markedOf

@@ -7,7 +7,6 @@ use mathlib.Core.List.{List, _++_}
 use mathlib.Core.Path.{_≡_}
 use lib.Dec.{leb}
 use lib.ListN.{length}
-use Rattle.rules.specs.declared.ButtonData.{ButtonData}
 use Rattle.rules.specs.declared.Event.{Event}
 use Rattle.rules.specs.declared.EventForm.{EventForm}
 use Rattle.rules.specs.declared.View.{View}
@@ -19,7 +18,6 @@ use Rattle.gather.specs.EventPlaces.{PlaceIs, FoundIs, EventPlacesAre}
 use Rattle.rules.specs.Hub.{hatPlaceOf, partnerPlaceOf}
 use Rattle.filters.specs.Converted.{Converted}
 use Rattle.filters.specs.Behind.{SentIs}
-use Rattle.repeat.specs.Post.{Scanned}
 use Rattle.turn.specs.Turn.{RingIs}
 use Rattle.lines.specs.Text.{numberText, hexText, wordOf, lineOf, stoppedLine, heldOf, linesOf}
 use Rattle.lines.specs.Appending.{laidOver, Appended}
@@ -72,10 +70,6 @@ pub unique-through : (on : Bool) (v : View) (e : Event) → One (SentIs on v e)
 unique-through on v e = one-owed _ (λ r w. w .is)
 
 -- ---- repeat: the first due place, and that the button there is due
-
-pub unique-first-due : (connected hasbutton : List Bool) (buttons : List ButtonData) (after every clock : ℕ)
-    → One (Scanned connected hasbutton buttons after every clock)
-unique-first-due connected hasbutton buttons after every clock = one-owed _ (λ r w. w .is)
 
 -- ---- turn: a place of the ring
 

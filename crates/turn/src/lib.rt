@@ -1,29 +1,15 @@
 // One turn of the pump's loop, in small decisions. Each function equals its definition for every input.
 ghost use mathlib.Core.Path.{_≡_};
-ghost use mathlib.Core.Bool.{cond, _&&_, _||_, true};
-ghost use Prim.Native.Nat.{_+_, _-_, _≤_, _<_, _%_};
-ghost use lib.Dec.{ltb};
-ghost use Rattle.numbers.specs.Constants.{withinOf};
-ghost use Rattle.rules.specs.Refusals.{recordRefusal};
+ghost use mathlib.Core.Bool.{true};
+ghost use Prim.Native.Nat.{_+_, _-_, _<_, _%_};
 ghost use Rattle.rules.specs.Hub.{longerOf, slotAt};
 ghost use Rattle.rules.specs.Step.{connectedAfter, renamedAfter, marksCleared, headAfter};
-ghost use Rattle.rules.specs.Pump.{stopOf, stopAnswer, placeAfter};
-ghost use Rattle.rules.specs.State.{buttonAfter, axisAfter};
-ghost use Rattle.turn.specs.Turn.{RingIs, takenBy};
-use gather::Found;
-use rules::AxisData;
-use rules::ButtonData;
-use rules::Dispatched;
+ghost use Rattle.rules.specs.Pump.{stopOf, stopAnswer};
+ghost use Rattle.turn.specs.Turn.{RingIs};
 use rules::EVENT_SIZE;
-use rules::Element;
-use rules::Event;
 use rules::KIND_CONNECTED;
 use rules::KIND_DISCONNECTED;
-use rules::NextRecord;
 use rules::PumpAnswer;
-use rules::RECORD_SIZE;
-use rules::RawRecord;
-use rules::Slot;
 
 const QUEUE_ROOM: u8 = 64;
 
@@ -67,41 +53,7 @@ pub fn stop_answer(why: u8, place: usize, events: usize, steps: usize) -> PumpAn
     }
 }
 
-// The next record's refusal; 0 while something waits.
-pub fn refusal(waiting: u8, l: NextRecord, pads: u8, kind: u8) -> u8
-    ensures { λ r. ⌜ r ≡ cond (ltb 0 waiting) 0 (recordRefusal l pads kind) ⌝ }
-{
-    choices::chosen(0 < waiting, 0, refusals::record_refusal(l, pads, kind))
-}
-
 // ---- what is taken
-
-// The queue's front, else what the record gives: `found` and `b` are of the record's code.
-pub fn take(
-    waiting: u8,
-    slot: Slot,
-    raw: RawRecord,
-    found: Found,
-    element: Element,
-    b: ButtonData,
-    pressed: f32,
-    released: f32,
-    reversed: bool,
-) -> Dispatched
-    requires { ⌜ withinOf (raw .value) ≡ true ⌝ }
-    ensures { λ r. ⌜ r ≡ takenBy waiting slot raw found element b pressed released reversed ⌝ }
-{
-    if 0 < waiting {
-        let e = events::event_of(slot);
-        return Dispatched {
-            event: e,
-            follows: false,
-            next: e,
-        };
-    }
-    let held = state::read_pressed(found.hasbutton, b);
-    dispatch::dispatch(raw, found.name, element, held, pressed, released, reversed)
-}
 
 // ---- the marks of a taken record
 
@@ -179,54 +131,6 @@ pub fn longer(waiting: u8) -> u8
     }
 }
 
-// The place in the batch after a step: past the record, where one was taken.
-pub fn place_after(waiting: u8, at: usize) -> usize
-    requires { ⌜ at ≤ 16384 ⌝ }
-    ensures { λ r. ⌜ r ≡ placeAfter waiting at ⌝ }
-{
-    if 0 < waiting { at } else { at + RECORD_SIZE }
-}
-
 // ---- what is pushed
 
-// Where the list of events to push begins: at 0, the event that the record itself queues, or at 1, past it, where the record queues none.
-pub fn first_pushed(follows: bool) -> usize
-    ensures { λ r. ⌜ r ≡ cond follows 0 1 ⌝ }
-{
-    if follows { 0 } else { 1 }
-}
-
 // ---- the records after an event
-
-// The button record after a kept event, if updates are on.
-pub fn button_written(on: bool, e: Event, known: bool, b: ButtonData, counter: u64) -> ButtonData
-    ensures { λ r. ⌜ r ≡ cond on (buttonAfter e known b counter) b ⌝ }
-{
-    if on {
-        state::button_after(e, known, b, counter)
-    } else {
-        b
-    }
-}
-
-// The axis record after a kept event, if updates are on.
-pub fn axis_written(on: bool, e: Event, a: AxisData, counter: u64) -> AxisData
-    ensures { λ r. ⌜ r ≡ cond on (axisAfter e a counter) a ⌝ }
-{
-    if on {
-        state::axis_after(e, a, counter)
-    } else {
-        a
-    }
-}
-
-// Whether a place has a record after an event: it had one, or the event writes it.
-pub fn known_after(known: bool, on: bool, writes: bool) -> bool
-    ensures { λ r. ⌜ r ≡ (known || (on && writes)) ⌝ }
-{
-    if known {
-        true
-    } else {
-        choices::both(on, writes)
-    }
-}
