@@ -1,29 +1,21 @@
 // Paces the hub: plays the operations of a course again and again, so that the program's time is the time of the calls, and prints what they did.
 // `benchmark/README.md` says what a course is. The arrays of the hub are locals, lent to each call. Proved: it is safe and ends on every input.
 mod counts;
+mod course;
 mod operations;
 
-use columns::Marks;
-use columns::QueueBytes;
-use columns::QueueCodes;
-use columns::Times;
-use columns::Values;
 use counts::Counts;
-use hub::Head;
 use libc::STDIN_FILENO;
 use libc::STDOUT_FILENO;
-use operations::Played;
 ghost use mathlib.Core.Path.{_≡_};
 ghost use Prim.Native.Nat.{_≤_, _<_};
 ghost use lib.ListN.{length};
 
 // a course opens with the number of rounds and the size of the opening, 4 bytes each
 const COURSE_HEAD: usize = 8;
-// an operation opens with its opcode and the payload's length in 4 bytes
-const OPERATION_HEAD: usize = 5;
 
 const NEW: u8 = 1;
-// the first operation is `new`: its payload has pressed 4, released 4, flags 1
+// the first operation is `new`: opcode 1, size 4, and the payload, pressed 4, released 4, flags 1
 const PRESSED_AT: usize = 13;
 
 const RELEASED_AT: usize = 17;
@@ -37,110 +29,6 @@ const FILTERS: u8 = 2;
 const UPDATES: u8 = 4;
 // and behind it the course goes on
 const OPENED: usize = 22;
-
-// Operations, one after the other, up to one that is cut short.
-fn play(
-    head: Head,
-    codes: &mut [u32; 208],
-    kinds: &mut [u8; 208],
-    names: &mut [u8; 208],
-    renames: &[u8; 208],
-    hasbutton: &mut [bool; 208],
-    hasaxis: &mut [bool; 208],
-    values: &mut Values,
-    times: &mut Times,
-    marks: &mut Marks,
-    queuebytes: &mut QueueBytes,
-    queuecodes: &mut QueueCodes,
-    operations: &[u8],
-    out: &mut [u8],
-    before: Counts,
-) -> Played {
-    let mut h = head;
-    let mut c = before;
-    let mut at: usize = 0;
-    while OPERATION_HEAD <= operations.len() - at {
-        let start = at + OPERATION_HEAD;
-        let size = wire::read4(operations, at + 1) as usize;
-        if operations.len() - start < size {
-            return operations::refused(h, c);
-        }
-        let end = start + size;
-        let r = operations::operation(
-            h,
-            codes,
-            kinds,
-            names,
-            renames,
-            hasbutton,
-            hasaxis,
-            values,
-            times,
-            marks,
-            queuebytes,
-            queuecodes,
-            operations[at],
-            &operations[start..end],
-            out,
-            c,
-        );
-        let next = r.head;
-        h = next;
-        c = r.counts;
-        at = end;
-    }
-    Played { head: h, counts: c }
-}
-
-// A round, on arrays of its own that begin as those lent: each round begins from the hub that the opening left.
-fn round(
-    head: Head,
-    codes: &[u32; 208],
-    kinds: &[u8; 208],
-    names: &[u8; 208],
-    renames: &[u8; 208],
-    hasbutton: &[bool; 208],
-    hasaxis: &[bool; 208],
-    values: &Values,
-    times: &Times,
-    marks: &Marks,
-    queuebytes: &QueueBytes,
-    queuecodes: &QueueCodes,
-    operations: &[u8],
-    out: &mut [u8],
-    before: Counts,
-) -> Counts {
-    let mut own_codes = *codes;
-    let mut own_kinds = *kinds;
-    let mut own_names = *names;
-    let mut own_touched = *hasbutton;
-    let mut own_moved = *hasaxis;
-    let mut own_values = *values;
-    let mut own_times = *times;
-    let mut own_marks = *marks;
-    let mut own_queuebytes = *queuebytes;
-    let mut own_queuecodes = *queuecodes;
-    let r = play(
-        head,
-        &mut own_codes,
-        &mut own_kinds,
-        &mut own_names,
-        renames,
-        &mut own_touched,
-        &mut own_moved,
-        &mut own_values,
-        &mut own_times,
-        &mut own_marks,
-        &mut own_queuebytes,
-        &mut own_queuecodes,
-        operations,
-        out,
-        before,
-    );
-    r.counts
-}
-
-// ---- the course
 
 struct Settings {
     pressed: f32,
@@ -233,7 +121,7 @@ fn paced(course: &[u8], out: &mut [u8]) -> Counts {
     );
     let empty = new.head;
     let answer = new.answer;
-    let opened = play(
+    let opened = course::play(
         empty,
         &mut codes,
         &mut kinds,
@@ -254,7 +142,7 @@ fn paced(course: &[u8], out: &mut [u8]) -> Counts {
     let opening = opened.counts;
     let mut c = counts::start(opening.refusals);
     while 0 < left {
-        c = round(
+        c = course::round(
             head,
             &codes,
             &kinds,

@@ -1,4 +1,5 @@
-// The operations of a course: each lends the hub's arrays to one public call and counts what it answered.
+// The operations of a benchmark's course (`benchmark/README.md`) on a hub in place: each lends the hub's arrays to one public call and counts what it answered.
+// Proved: each is safe and ends on every input.
 use crate::counts;
 use crate::counts::Counts;
 use columns::Marks;
@@ -33,7 +34,7 @@ pub struct Played {
     pub counts: Counts,
 }
 
-pub fn least(a: usize, b: usize) -> usize
+fn least(a: usize, b: usize) -> usize
     ensures { λ r. ⌜ (r ≤ a) × (r ≤ b) ⌝ }
 {
     if a < b { a } else { b }

@@ -21,13 +21,13 @@ ended c =
     c .before .before .before .before .before .before .before .before .before .before .before .before .before .before .before .before .before .before .before .before .before .before .before .before .before
 
 start-requires : tie.Need-start-requires Inv-loop μ-loop
-start-requires c κs = search needs
+start-requires c κs = tt
 
 refused-requires : tie.Need-refused-requires Inv-loop μ-loop
-refused-requires c κs = search needs
+refused-requires c κs = tt
 
 returns : tie.Need-returns Inv-loop μ-loop
-returns c = search needs
+returns c = tt
 
 read4-requires : tie.Need-read4-requires Inv-loop μ-loop
 read4-requires c κs = search needs
@@ -39,7 +39,7 @@ settings-of-requires : tie.Need-settings-of-requires Inv-loop μ-loop
 settings-of-requires c κs = search needs
 
 new-hub-requires : tie.Need-new-hub-requires Inv-loop μ-loop
-new-hub-requires c κs = search needs
+new-hub-requires c κs = tt
 
 sub-play : tie.Need-sub-play Inv-loop μ-loop
 sub-play c =
@@ -57,16 +57,16 @@ part-play-end c =
     search needs
 
 start-requires-2 : tie.Need-start-requires-2 Inv-loop μ-loop
-start-requires-2 c κs = search needs
+start-requires-2 c κs = tt
 
 counted-requires : tie.Need-counted-requires Inv-loop μ-loop
-counted-requires c κs = search needs
+counted-requires c κs = tt
 
 play-requires : tie.Need-play-requires Inv-loop μ-loop
-play-requires c κs = search needs
+play-requires c κs = tt
 
 start-requires-3 : tie.Need-start-requires-3 Inv-loop μ-loop
-start-requires-3 c κs = search needs
+start-requires-3 c κs = tt
 
 loop-holds : tie.Need-loop-holds Inv-loop μ-loop
 loop-holds c =
@@ -83,7 +83,7 @@ part-round-end : tie.Need-part-round-end Inv-loop μ-loop
 part-round-end c = search needs
 
 round-requires : tie.Need-round-requires Inv-loop μ-loop
-round-requires c κs = search needs
+round-requires c κs = tt
 
 sub-left : tie.Need-sub-left Inv-loop μ-loop
 sub-left c = search needs
@@ -98,7 +98,7 @@ same-length : tie.Need-same-length Inv-loop μ-loop
 same-length c = search needs
 
 returns-2 : tie.Need-returns-2 Inv-loop μ-loop
-returns-2 c = search needs
+returns-2 c = tt
 
 pub paced-spec : {M : Type 1} → statement M
 paced-spec =

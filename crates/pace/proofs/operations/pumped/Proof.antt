@@ -1,4 +1,4 @@
--- `pace::operations::pumped` is safe: the out buffer is lent as far as it goes.
+-- `operations::pumped` is safe: the out buffer is lent as far as it goes.
 use native.Mathlib.Omega.{arith}
 use lib.ListN.{length-take}
 use borrow.Author.Needs.{needs}
@@ -6,10 +6,10 @@ use Rattle.pace.proofs.operations.pumped.Statement.{statement}
 use Rattle.pace.proofs.operations.pumped.Tie as tie
 
 refused-requires : tie.Need-refused-requires
-refused-requires c κs = search needs
+refused-requires c κs = tt
 
 returns : tie.Need-returns
-returns c = search needs
+returns c = tt
 
 read4-requires : tie.Need-read4-requires
 read4-requires c κs = search needs
@@ -24,7 +24,7 @@ cast-least : tie.Need-cast-least
 cast-least c = search needs
 
 least-requires : tie.Need-least-requires
-least-requires c κs = search needs
+least-requires c κs = tt
 
 read2-requires : tie.Need-read2-requires
 read2-requires c κs = search needs
@@ -45,16 +45,16 @@ slice-aggregate-pump : tie.Need-slice-aggregate-pump
 slice-aggregate-pump c = simp length-take (omega arith)
 
 pump-requires : tie.Need-pump-requires
-pump-requires c κs = search needs
+pump-requires c κs = tt
 
 pumped-requires : tie.Need-pumped-requires
-pumped-requires c κs = search needs
+pumped-requires c κs = tt
 
 same-length : tie.Need-same-length
 same-length c = search needs
 
 returns-2 : tie.Need-returns-2
-returns-2 c = search needs
+returns-2 c = tt
 
 pub pumped-spec : {M : Type 1} → statement M
 pumped-spec =

@@ -1,11 +1,11 @@
--- `pace::play` is safe and ends: each operation leaves fewer bytes.
+-- `course::play` is safe and ends: each operation leaves fewer bytes.
 use Prim.Native.Nat.{_≤_, _-_}
 use native.Mathlib.Omega.{arith}
 use mathlib.Core.Path.{_≡_}
 use lib.ListN.{length}
 use borrow.Author.Needs.{needs}
-use Rattle.pace.proofs.play.Statement.{statement}
-use Rattle.pace.proofs.play.Tie as tie
+use Rattle.pace.proofs.course.play.Statement.{statement}
+use Rattle.pace.proofs.course.play.Tie as tie
 
 abbrev Inv-loop : tie.InvT-loop
 Inv-loop codes₀ kinds₀ names₀ renames hasbutton₀ hasaxis₀ values₀ times₀ marks₀ queuebytes₀ queuecodes₀ operations out₀ h₀ c₀ at₀
@@ -47,13 +47,13 @@ sub-if1 : tie.Need-sub-if1 Inv-loop μ-loop
 sub-if1 c = search needs
 
 refused-requires : tie.Need-refused-requires Inv-loop μ-loop
-refused-requires c κs = search needs
+refused-requires c κs = tt
 
 same-length : tie.Need-same-length Inv-loop μ-loop
 same-length c = search needs
 
 returns : tie.Need-returns Inv-loop μ-loop
-returns c = search needs
+returns c = tt
 
 add-end : tie.Need-add-end Inv-loop μ-loop
 add-end c = search needs
@@ -71,7 +71,7 @@ part-operation-end : tie.Need-part-operation-end Inv-loop μ-loop
 part-operation-end c = search needs
 
 operation-requires : tie.Need-operation-requires Inv-loop μ-loop
-operation-requires c κs = search needs
+operation-requires c κs = tt
 
 loop-less : tie.Need-loop-less Inv-loop μ-loop
 loop-less c = omega (arith, whole c .if1 .left, turning (whole c) .loop-test .taken)
@@ -87,7 +87,7 @@ same-length-2 : tie.Need-same-length-2 Inv-loop μ-loop
 same-length-2 c = search needs
 
 returns-2 : tie.Need-returns-2 Inv-loop μ-loop
-returns-2 c = search needs
+returns-2 c = tt
 
 pub play-spec : {M : Type 1} → statement M
 play-spec =
