@@ -85,15 +85,15 @@ fn queues(count: u8, first: Event, second: Event, third: Event, case: &[u8; 104]
 fn filtered(on: bool, case: &[u8; 104]) -> bool {
     let v = view(case);
     let e = compare_cases::event(case, compare_cases::GIVEN);
-    let f = filters::through(on, v, e);
+    let f = filters::filter(on, v, e);
     let sent = f.event;
     let flags = f.flags;
     if !sends(sent, f.count, case) {
         return false;
     }
-    let first = filters::behind(e, v, e, f, 1);
-    let second = filters::behind(e, v, e, f, 2);
-    let third = filters::behind(e, v, e, f, 3);
+    let first = filters::queued_behind(e, v, e, f, 1);
+    let second = filters::queued_behind(e, v, e, f, 2);
+    let third = filters::queued_behind(e, v, e, f, 3);
     if !queues(f.count, first, second, third, case) {
         return false;
     }

@@ -2,4 +2,4 @@ pub mod Converted
 pub mod Counts
 pub mod Queued
 pub mod Post
-pub mod Behind
+pub mod FilteredEvent

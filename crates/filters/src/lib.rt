@@ -7,7 +7,7 @@ ghost use mathlib.Core.Bool.{cond};
 ghost use Rattle.numbers.specs.Constants.{zero32};
 ghost use Rattle.rules.specs.Filters as law;
 ghost use Rattle.filters.specs.Post.{Counted};
-ghost use Rattle.filters.specs.Behind.{SentIs, behindOf};
+ghost use Rattle.filters.specs.FilteredEvent.{FilteredEventIs, queuedBehindOf};
 use numbers::Pair;
 use rules::Event;
 use rules::EventType;
@@ -156,8 +156,8 @@ fn one_if(b: bool) -> u8
 }
 
 // What passes, how many events wait behind it, how many of them are a hat's, and the event that clears the partner. The events that wait are told one by
-// one (`behind`), so that none is made before it is pushed.
-pub struct Sent {
+// one (`queued_behind`), so that none is made before it is pushed.
+pub struct FilteredEvent {
     pub event: Event,
     pub count: u8,
     pub hats: u8,
@@ -166,8 +166,8 @@ pub struct Sent {
 }
 
 // The event through the filters in their order, if they are on: what passes, and how many events wait behind it.
-pub fn through(on: bool, v: View, e: Event) -> Sent
-    ensures { λ r. ⌜ SentIs on v e r ⌝ }
+pub fn filter(on: bool, v: View, e: Event) -> FilteredEvent
+    ensures { λ r. ⌜ FilteredEventIs on v e r ⌝ }
 {
     if on {
         let g = dpad::dpad(v, e);
@@ -176,7 +176,7 @@ pub fn through(on: bool, v: View, e: Event) -> Sent
         let zoned = z.event;
         let clearing = z.clearing;
         let flags = z.flags;
-        return Sent {
+        return FilteredEvent {
             event: zoned,
             count: g.count + one_if(z.clears),
             hats: g.count,
@@ -185,7 +185,7 @@ pub fn through(on: bool, v: View, e: Event) -> Sent
         };
     }
     let flags = v.flags;
-    Sent {
+    FilteredEvent {
         event: e,
         count: 0,
         hats: 0,
@@ -195,8 +195,8 @@ pub fn through(on: bool, v: View, e: Event) -> Sent
 }
 
 // What waits at a place behind an event: the record's own next one, the hat's, the clearing one.
-pub fn behind(next: Event, v: View, e: Event, s: Sent, at: usize) -> Event
-    ensures { λ r. ⌜ r ≡ behindOf next v e s at ⌝ }
+pub fn queued_behind(next: Event, v: View, e: Event, s: FilteredEvent, at: usize) -> Event
+    ensures { λ r. ⌜ r ≡ queuedBehindOf next v e s at ⌝ }
 {
     if at == 0 {
         return next;

@@ -25,8 +25,8 @@ use Rattle.hub.specs.Heads.{headFlags, headQueue}
 use Rattle.hub.specs.Lent.{Listed, columns, hubOf}
 use Rattle.gather.specs.declared.EventPlaces.{EventPlaces}
 use Rattle.gather.specs.EventPlaces.{viewBy, view-is}
-use Rattle.filters.specs.declared.Sent.{Sent}
-use Rattle.filters.specs.Behind.{SentIs, sent-event, sent-flags}
+use Rattle.filters.specs.declared.FilteredEvent.{FilteredEvent}
+use Rattle.filters.specs.FilteredEvent.{FilteredEventIs, sent-event, sent-flags}
 use Rattle.queueing.specs.Queued.{Pushed, pushed-then}
 use Rattle.passing.specs.declared.Served.{Served}
 use Rattle.passing.specs.Waits.{waitsBehind, all-behind}
@@ -80,23 +80,23 @@ module _ (on : Bool) (m : Hub) (d : Dispatched) {vs vs' : List Float} {ts bs cs 
 -- ---- an event that passes the filters
 
 serves-sent :
-    (on : Bool) (v : View) (d : Dispatched) (flags : List Bool) {f : Sent} {both : List Bool} {vs vs1 vs2 : List Float}
+    (on : Bool) (v : View) (d : Dispatched) (flags : List Bool) {f : FilteredEvent} {both : List Bool} {vs vs1 vs2 : List Float}
     {ts bs cs ts1 bs1 cs1 ts2 bs2 cs2 : List ℕ} {head waiting more all : ℕ} →
     Pushed vs ts bs cs head waiting (ownFirst (d .follows) (d .next)) vs1 ts1 bs1 cs1 more →
-    SentIs on v (d .event) f →
+    FilteredEventIs on v (d .event) f →
     both ≡ flagsSet flags (d .event .pad) (nameOf (d .event)) (f .flags) →
     Pushed vs1 ts1 bs1 cs1 head more (waitsBehind v (d .event) f (f .count)) vs2 ts2 bs2 cs2 all →
     ServedIs on v d flags head waiting vs ts bs cs (record { event = f .event; waiting = all }) both vs2 ts2 bs2 cs2
 serves-sent on v d flags first sent ef rest =
     let e = d .event in
     record {
-      event = ap (λ (s : Sent). s .event) (sent .is) ∙ sent-event on v e;
-      flags-are = ef ∙ ap (flagsSet flags (e .pad) (nameOf e)) (ap (λ (s : Sent). s .flags) (sent .is) ∙ sent-flags on v e);
+      event = ap (λ (s : FilteredEvent). s .event) (sent .is) ∙ sent-event on v e;
+      flags-are = ef ∙ ap (flagsSet flags (e .pad) (nameOf e)) (ap (λ (s : FilteredEvent). s .flags) (sent .is) ∙ sent-flags on v e);
       queued = rw (← pushes-are d (filteredOf on v e .gives), ← all-behind on v e sent) (pushed-then first rest);
     }
 
 pub serves-seen :
-    (on : Bool) (m : Hub) (d : Dispatched) (ms : List Bool) {name code : ℕ} {s : EventPlaces} {v : View} {f : Sent} {flagged both : List Bool}
+    (on : Bool) (m : Hub) (d : Dispatched) (ms : List Bool) {name code : ℕ} {s : EventPlaces} {v : View} {f : FilteredEvent} {flagged both : List Bool}
     {vs vs1 vs2 : List Float} {ts bs cs ts1 bs1 cs1 ts2 bs2 cs2 : List ℕ} {head waiting more all : ℕ} →
     m .elements ≡ elementsOf vs ms →
     m .buttons ≡ buttonsOf vs ts ms →
@@ -110,7 +110,7 @@ pub serves-seen :
     (getD (axesOf vs1 ts1) (s .own .place) pastAxis) (getD (buttonsOf vs1 ts1 ms) (s .positive .place) pastButton)
     (getD (buttonsOf vs1 ts1 ms) (s .negative .place) pastButton) (getD (buttonsOf vs1 ts1 ms) (s .partner .place) pastButton)
     (getD (axesOf vs1 ts1) (s .partner .place) pastAxis) →
-    SentIs on v (d .event) f →
+    FilteredEventIs on v (d .event) f →
     flagged ≡ set (m .flags) (s .flag) (f .flags .own) →
     both ≡ set flagged (s .other) (f .flags .partner) →
     Pushed vs1 ts1 bs1 cs1 head more (waitsBehind v (d .event) f (f .count)) vs2 ts2 bs2 cs2 all →

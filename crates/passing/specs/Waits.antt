@@ -12,21 +12,21 @@ use Rattle.rules.specs.declared.Event.{Event}
 use Rattle.rules.specs.declared.View.{View}
 use Rattle.rules.specs.Events.{queuedOf}
 use Rattle.rules.specs.Filters.{filteredOf}
-use Rattle.filters.specs.declared.Sent.{Sent}
-use Rattle.filters.specs.Behind.{SentIs, sentOf, behindOf, behind-is, sent-count, filtered-four}
+use Rattle.filters.specs.declared.FilteredEvent.{FilteredEvent}
+use Rattle.filters.specs.FilteredEvent.{FilteredEventIs, filteredEventOf, queuedBehindOf, behind-is, sent-count, filtered-four}
 use Rattle.queueing.specs.Queued.{Pushed, pushed-then}
 
 -- the first n events that wait behind an event
-unfoldable pub waitsBehind : View → Event → Sent → ℕ → List Event
+unfoldable pub waitsBehind : View → Event → FilteredEvent → ℕ → List Event
 waitsBehind v e s zero = []
-waitsBehind v e s (suc n) = waitsBehind v e s n ++ (behindOf e v e s (suc n) ∷ [])
+waitsBehind v e s (suc n) = waitsBehind v e s n ++ (queuedBehindOf e v e s (suc n) ∷ [])
 
 -- one more is pushed
 pub pushed-more :
-    (v : View) (e : Event) (s : Sent) (x : ℕ) {u : Event} {vs vs1 vs2 : List Float} {ts bs cs ts1 bs1 cs1 ts2 bs2 cs2 : List ℕ}
+    (v : View) (e : Event) (s : FilteredEvent) (x : ℕ) {u : Event} {vs vs1 vs2 : List Float} {ts bs cs ts1 bs1 cs1 ts2 bs2 cs2 : List ℕ}
     {head waiting waiting1 waiting2 : ℕ} →
     Pushed vs ts bs cs head waiting (waitsBehind v e s x) vs1 ts1 bs1 cs1 waiting1 →
-    u ≡ behindOf e v e s (x + 1) →
+    u ≡ queuedBehindOf e v e s (x + 1) →
     Pushed vs1 ts1 bs1 cs1 head waiting1 (u ∷ []) vs2 ts2 bs2 cs2 waiting2 →
     Pushed vs ts bs cs head waiting (waitsBehind v e s (x + 1)) vs2 ts2 bs2 cs2 waiting2
 unfolding waitsBehind
@@ -36,7 +36,7 @@ first-behind :
     (on : Bool) (v : View) (e : Event) (n : ℕ) →
     n ≤ filteredOf on v e .gives .count →
     filteredOf on v e .gives .count ≤ 4 →
-    waitsBehind v e (sentOf on v e) n ≡ take n (filteredOf on v e .gives .queued)
+    waitsBehind v e (filteredEventOf on v e) n ≡ take n (filteredOf on v e .gives .queued)
 unfolding waitsBehind
 first-behind on v e zero few four = refl
 first-behind on v e (suc n) few four =
@@ -46,9 +46,9 @@ first-behind on v e (suc n) few four =
 
 -- all of them: the law book's queue
 pub all-behind :
-    (on : Bool) (v : View) (e : Event) {s : Sent} → SentIs on v e s → waitsBehind v e s (s .count) ≡ queuedOf (filteredOf on v e .gives)
+    (on : Bool) (v : View) (e : Event) {s : FilteredEvent} → FilteredEventIs on v e s → waitsBehind v e s (s .count) ≡ queuedOf (filteredOf on v e .gives)
 unfolding queuedOf
 all-behind on v e {s} sent =
-    let count : s .count ≡ filteredOf on v e .gives .count = ap (λ (x : Sent). x .count) (sent .is) ∙ sent-count on v e in
-    ap (λ (x : Sent). waitsBehind v e x (s .count)) (sent .is) ∙ ap (waitsBehind v e (sentOf on v e)) count
+    let count : s .count ≡ filteredOf on v e .gives .count = ap (λ (x : FilteredEvent). x .count) (sent .is) ∙ sent-count on v e in
+    ap (λ (x : FilteredEvent). waitsBehind v e x (s .count)) (sent .is) ∙ ap (waitsBehind v e (filteredEventOf on v e)) count
     ∙ first-behind on v e (filteredOf on v e .gives .count) (omega arith) (omega (arith, sent .small))

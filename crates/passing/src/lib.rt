@@ -163,7 +163,7 @@ pub fn serve<'a>(
         place,
     );
     let v = cells::view_in(values, times, marks, s);
-    let f = filters::through(on, v, e);
+    let f = filters::filter(on, v, e);
     let m = f.flags;
     pad::mark_flag(flags, s.flag, m.own);
     pad::mark_flag(flags, s.other, m.partner);
@@ -172,7 +172,7 @@ pub fn serve<'a>(
     let mut x: usize = 0;
     while x < count {
         x = x + 1;
-        let u = filters::behind(e, v, e, f, x);
+        let u = filters::queued_behind(e, v, e, f, x);
         all = queueing::push(values, times, queuebytes, queuecodes, t.head, all, u);
     }
     let z = f.event;

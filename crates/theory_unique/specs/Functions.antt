@@ -17,7 +17,7 @@ use Rattle.pad.specs.Found.{Placed, Named}
 use Rattle.gather.specs.EventPlaces.{PlaceIs, FoundIs, EventPlacesAre}
 use Rattle.rules.specs.Hub.{hatPlaceOf, partnerPlaceOf}
 use Rattle.filters.specs.Converted.{Converted}
-use Rattle.filters.specs.Behind.{SentIs}
+use Rattle.filters.specs.FilteredEvent.{FilteredEventIs}
 use Rattle.turn.specs.Turn.{RingIs}
 use Rattle.lines.specs.Text.{numberText, hexText, wordOf, lineOf, stoppedLine, heldOf, linesOf}
 use Rattle.lines.specs.Appending.{laidOver, Appended}
@@ -66,8 +66,8 @@ unique-event-places codes kinds names renames renamed converts newconverts hasbu
 pub unique-dpad : (v : View) (e : Event) → One (Converted v e)
 unique-dpad v e = one-owed _ (λ r w. w .is)
 
-pub unique-through : (on : Bool) (v : View) (e : Event) → One (SentIs on v e)
-unique-through on v e = one-owed _ (λ r w. w .is)
+pub unique-filter : (on : Bool) (v : View) (e : Event) → One (FilteredEventIs on v e)
+unique-filter on v e = one-owed _ (λ r w. w .is)
 
 -- ---- repeat: the first due place, and that the button there is due
 

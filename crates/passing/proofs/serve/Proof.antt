@@ -48,7 +48,7 @@ named c = c .before
 abbrev sighted : At tie.After-view-in → At tie.After-event-places
 sighted c = c .before .before .before
 
-abbrev sent : At tie.After-mark-flag → At tie.After-through
+abbrev sent : At tie.After-mark-flag → At tie.After-filter
 sent c = c .before .before .before
 
 abbrev marked : At tie.At-loop → At tie.After-mark-flag2
@@ -95,8 +95,8 @@ event-places-requires c κs = rw (coded c .code-of .ensures) (start (pushed (cod
 view-in-requires : At tie.Need-view-in-requires
 view-in-requires c κs = search needs
 
-through-requires : At tie.Need-through-requires
-through-requires c κs = search needs
+filter-requires : At tie.Need-filter-requires
+filter-requires c κs = search needs
 
 mark-flag-requires : At tie.Need-mark-flag-requires
 mark-flag-requires c κs = search needs
@@ -114,8 +114,8 @@ loop-holds c = (omega arith, pushed-none)
 add-x : At tie.Need-add-x
 add-x c = omega arith
 
-behind-requires : At tie.Need-behind-requires
-behind-requires c κs = search needs
+queued-behind-requires : At tie.Need-queued-behind-requires
+queued-behind-requires c κs = search needs
 
 push-requires : At tie.Need-push-requires
 push-requires c κs = search needs
@@ -132,7 +132,7 @@ loop-again c =
     let v = f .before in
     let a = start (pushed (coded (named (sighted v)))) .args in (
       omega arith,
-      pushed-more (v .view-in .result) (a .t .event) (f .through .result) (loop .loop .x) (loop .loop .inv .1) (told .behind .ensures) (c .push .ensures),
+      pushed-more (v .view-in .result) (a .t .event) (f .filter .result) (loop .loop .x) (loop .loop .inv .1) (told .queued-behind .ensures) (c .push .ensures),
     )
 
 returns-2 : At tie.Need-returns-2
@@ -145,9 +145,9 @@ returns-2 c =
     let n = named (sighted v) in
     let first = pushed (coded n) in
     let s = start first in
-    let all : loop .loop .x ≡ f .through .result .count = omega (arith, loop .before .wide .ensures .0, loop .loop .inv .0) in
+    let all : loop .loop .x ≡ f .filter .result .count = omega (arith, loop .before .wide .ensures .0, loop .loop .inv .0) in
     serves-seen (s .args .on) (seen s) (taken s) (now (s .args .marks)) refl refl refl (first .push-next .ensures) (n .name-of .ensures)
-    (coded n .code-of .ensures) (sighted v .event-places .ensures) (v .view-in .ensures) (f .through .ensures) (own .mark-flag .ensures)
+    (coded n .code-of .ensures) (sighted v .event-places .ensures) (v .view-in .ensures) (f .filter .ensures) (own .mark-flag .ensures)
     (both .mark-flag2 .ensures) (rw all at (loop .loop .inv .1))
 
 pub serve-spec : {M : Type 1} → statement M
@@ -163,13 +163,13 @@ serve-spec =
     name-of-requires
     event-places-requires
     view-in-requires
-    through-requires
+    filter-requires
     mark-flag-requires
     mark-flag-requires-2
     wide-requires
     loop-holds
     add-x
-    behind-requires
+    queued-behind-requires
     push-requires
     loop-less
     loop-again

@@ -1,8 +1,8 @@
--- `through` meets its contract: what the three filters ensure, each put into the next; the count is a law of the definition (`Behind`).
+-- `filter` meets its contract: what the three filters ensure, each put into the next; the count is a law of the definition (`Behind`).
 use borrow.Author.Needs.{needs}
-use Rattle.filters.specs.Behind.{sentOf, sent}
-use Rattle.filters.proofs.through.Statement.{statement}
-use Rattle.filters.proofs.through.Tie as tie
+use Rattle.filters.specs.FilteredEvent.{filteredEventOf, sent}
+use Rattle.filters.proofs.filter.Statement.{statement}
+use Rattle.filters.proofs.filter.Tie as tie
 
 dpad-requires : tie.Need-dpad-requires
 dpad-requires c κs = search needs
@@ -20,15 +20,15 @@ add-t14 : tie.Need-add-t14
 add-t14 c = search needs
 
 returns : tie.Need-returns
-unfolding sentOf
+unfolding filteredEventOf
 returns c = sent (rw (c .before .one-if .ensures .is, c .before .before .before .before .before .deadzoned .ensures, c .before .before .before .before .before .before .jittered .ensures, c .before .before .before .before .before .before .before .before .dpad .ensures .is, c .before .before .before .before .before .before .before .before .before .if1 .taken))
 
 returns-2 : tie.Need-returns-2
-unfolding sentOf
+unfolding filteredEventOf
 returns-2 c = sent (rw (c .before .if1 .left))
 
-pub through-spec : {M : Type 1} → statement M
-through-spec =
+pub filter-spec : {M : Type 1} → statement M
+filter-spec =
     tie.close
     (tie.spec
     dpad-requires

@@ -18,29 +18,29 @@ use Rattle.rules.specs.Places.{oneIf}
 use Rattle.rules.specs.Filters.{dpadOf, jitteredOf, deadzonedOf, joined, filteredOf}
 use Rattle.filters.specs.Counts.{dpad-few, dpad-four}
 use Rattle.filters.specs.Queued.{queuedAt, queued-is}
-use Rattle.filters.specs.declared.Sent.{Sent}
+use Rattle.filters.specs.declared.FilteredEvent.{FilteredEvent}
 
 -- ---- what is sent
 
-abbrev pub sentBy : Gives → Zoned → Sent
-sentBy g z = record { event = z .event; count = g .count + oneIf (z .clears); hats = g .count; clearing = z .clearing; flags = z .flags }
+abbrev pub filteredEventBy : Gives → Zoned → FilteredEvent
+filteredEventBy g z = record { event = z .event; count = g .count + oneIf (z .clears); hats = g .count; clearing = z .clearing; flags = z .flags }
 
-unfoldable pub sentOf : Bool → View → Event → Sent
+unfoldable pub filteredEventOf : Bool → View → Event → FilteredEvent
 unfolding dpadOf jitteredOf deadzonedOf
-sentOf on v e =
-    cond on (sentBy (dpadOf v e) (deadzonedOf v (jitteredOf v (dpadOf v e .event))))
+filteredEventOf on v e =
+    cond on (filteredEventBy (dpadOf v e) (deadzonedOf v (jitteredOf v (dpadOf v e .event))))
     (record { event = e; count = 0; hats = 0; clearing = e; flags = v .flags })
 
 -- four events at most wait behind it
-pub record SentIs (on : Bool) (v : View) (e : Event) (r : Sent) : Type 0 where
-  pub is : r ≡ sentOf on v e
+pub record FilteredEventIs (on : Bool) (v : View) (e : Event) (r : FilteredEvent) : Type 0 where
+  pub is : r ≡ filteredEventOf on v e
   pub small : r .count ≤ 4
 
 -- ---- what waits at a place behind it
 
-unfoldable pub behindOf : Event → View → Event → Sent → ℕ → Event
+unfoldable pub queuedBehindOf : Event → View → Event → FilteredEvent → ℕ → Event
 unfolding queuedAt
-behindOf next v e s at = cond (eqb at 0) next (cond (leb at (s .hats)) (queuedAt v e (at - 1)) (s .clearing))
+queuedBehindOf next v e s at = cond (eqb at 0) next (cond (leb at (s .hats)) (queuedAt v e (at - 1)) (s .clearing))
 
 -- ---- it is the law book's answer
 
@@ -48,26 +48,26 @@ pub one-few : (b : Bool) → oneIf b ≤ 1
 one-few true = omega arith
 one-few false = omega arith
 
-sent-few : (on : Bool) (v : View) (e : Event) → sentOf on v e .count ≤ 4
-unfolding sentOf
+sent-few : (on : Bool) (v : View) (e : Event) → filteredEventOf on v e .count ≤ 4
+unfolding filteredEventOf
 sent-few true v e = omega (arith, dpad-few v e, one-few (deadzonedOf v (jitteredOf v (dpadOf v e .event)) .clears))
 sent-few false v e = omega arith
 
-pub sent : {on : Bool} {v : View} {e : Event} {r : Sent} → r ≡ sentOf on v e → SentIs on v e r
+pub sent : {on : Bool} {v : View} {e : Event} {r : FilteredEvent} → r ≡ filteredEventOf on v e → FilteredEventIs on v e r
 sent {on} {v} {e} is = record { is = is; small = rw is (sent-few on v e) }
 
-pub sent-event : (on : Bool) (v : View) (e : Event) → sentOf on v e .event ≡ filteredOf on v e .gives .event
-unfolding sentOf filteredOf joined
+pub sent-event : (on : Bool) (v : View) (e : Event) → filteredEventOf on v e .event ≡ filteredOf on v e .gives .event
+unfolding filteredEventOf filteredOf joined
 sent-event true v e = refl
 sent-event false v e = refl
 
-pub sent-count : (on : Bool) (v : View) (e : Event) → sentOf on v e .count ≡ filteredOf on v e .gives .count
-unfolding sentOf filteredOf joined
+pub sent-count : (on : Bool) (v : View) (e : Event) → filteredEventOf on v e .count ≡ filteredOf on v e .gives .count
+unfolding filteredEventOf filteredOf joined
 sent-count true v e = refl
 sent-count false v e = refl
 
-pub sent-flags : (on : Bool) (v : View) (e : Event) → sentOf on v e .flags ≡ filteredOf on v e .flags
-unfolding sentOf filteredOf joined
+pub sent-flags : (on : Bool) (v : View) (e : Event) → filteredEventOf on v e .flags ≡ filteredOf on v e .flags
+unfolding filteredEventOf filteredOf joined
 sent-flags true v e = refl
 sent-flags false v e = refl
 
@@ -102,8 +102,8 @@ one-less k = omega arith
 pub behind-is :
     (past : Event) (on : Bool) (next : Event) (v : View) (e : Event) (at : ℕ) →
     at ≤ filteredOf on v e .gives .count →
-    behindOf next v e (sentOf on v e) at ≡ getD (next ∷ filteredOf on v e .gives .queued) at past
-unfolding behindOf sentOf filteredOf joined
+    queuedBehindOf next v e (filteredEventOf on v e) at ≡ getD (next ∷ filteredOf on v e .gives .queued) at past
+unfolding queuedBehindOf filteredEventOf filteredOf joined
 behind-is past on next v e zero h = refl
 behind-is past true next v e (suc k) h =
     let z = deadzonedOf v (jitteredOf v (dpadOf v e .event)) in
