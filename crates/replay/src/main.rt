@@ -1,90 +1,64 @@
-// Plays the oracle's scenario form (`oracle/README.md`) on the hub and prints what the oracle prints. It reads one operation at a time, so its memory
-// is bounded whatever the input's length.
-mod play;
-
-use answers::say;
+// Plays the oracle's scenario form (`oracle/README.md`) on the hub and prints what the oracle prints. It holds the hub's arrays and lends them to each operation,
+// and reads one operation at a time, so its memory is bounded whatever the input's length.
+use columns::Marks;
+use columns::QueueBytes;
+use columns::QueueCodes;
+use columns::Times;
+use columns::Values;
+use hub::Head;
 use libc::STDIN_FILENO;
 use libc::STDOUT_FILENO;
-use rules::Answer;
-use rules::Hub;
+use replay_turns::Game;
+ghost use mathlib.Core.Path.{_≡_};
+ghost use Prim.Native.Nat.{_≤_};
+ghost use lib.ListN.{length};
 
 // an operation opens with an opcode and the payload's length in 4 bytes
 const OPENING: usize = 5;
 
-const NEW_SIZE: usize = 9;
-// bits of the flags byte of `new`
-const REVERSED: u8 = 1;
-
-const FILTERS: u8 = 2;
-
-const UPDATES: u8 = 4;
 // the text is written out once so much of it stands; an operation adds at most 744 lines of events
 const ENOUGH: usize = 131072;
 
-// Between two operations: whether the input goes on, whether a hub stands, the hub, and the place behind the text so far.
-struct Game {
+// ---- reading and writing
+
+// Whether one more operation was read, its opcode, and how long its payload is.
+struct Operation {
     more: bool,
-    stands: bool,
-    hub: Hub,
-    at: usize,
+    opcode: u8,
+    size: usize,
 }
 
-// `new` begins a scenario: pressed 4, released 4, flags 1.
-fn begin(payload: &[u8], hub: Hub, text: &mut [u8], at: usize) -> Game {
-    if payload.len() != NEW_SIZE {
-        let next = play::none(text, at);
-        return Game {
-            more: true,
-            stands: false,
-            hub,
-            at: next,
-        };
-    }
-    let flags = payload[8];
-    let r = desk::new_hub(
-        binary32::of_bits(wire::read4(payload, 0)),
-        binary32::of_bits(wire::read4(payload, 4)),
-        flags / REVERSED % 2 == 1,
-        flags / FILTERS % 2 == 1,
-        flags / UPDATES % 2 == 1,
-    );
-    let hub = r.hub;
-    let answer = r.answer;
-    let stands = match answer {
-        Answer::Done => true,
-        Answer::Refused(_) => false,
-    };
-    let next = say::done(text, at, b"HUB\n", answer);
-    Game {
-        more: true,
-        stands,
-        hub,
-        at: next,
+fn no_more() -> Operation
+    ensures { λ r. ⌜ r .size ≡ 0 ⌝ }
+{
+    Operation {
+        more: false,
+        opcode: 0,
+        size: 0,
     }
 }
 
-// One operation, whose opcode and payload were read.
-fn played(g: Game, opcode: u8, payload: &[u8], out: &mut [u8], text: &mut [u8]) -> Game {
-    let hub = g.hub;
-    if opcode == play::NEW {
-        return begin(payload, hub, text, g.at);
+// The next operation is read. The input ends with the last one; a payload that is too long or cut short ends it too.
+fn next_operation(payload: &mut [u8]) -> Operation
+    ensures { λ r. ⌜ r .size ≤ length (now (payload .exit)) ⌝ }
+{
+    let mut opening = [0u8; 5];
+    let got = io::read_full(STDIN_FILENO, &mut opening);
+    if got < OPENING {
+        return no_more();
     }
-    if !g.stands {
-        let next = lines::append(text, g.at, b"NO HUB\n");
-        return Game {
-            more: true,
-            stands: false,
-            hub,
-            at: next,
-        };
+    let size = wire::read4(&opening, 1) as usize;
+    if payload.len() < size {
+        return no_more();
     }
-    let told = play::play(hub, opcode, payload, out, text, g.at);
-    let after = told.hub;
-    Game {
+    let came = io::read_full(STDIN_FILENO, &mut payload[..size]);
+    if came < size {
+        return no_more();
+    }
+    Operation {
         more: true,
-        stands: true,
-        hub: after,
-        at: told.at,
+        opcode: opening[0],
+        size: size,
     }
 }
 
@@ -104,55 +78,134 @@ fn flushed(text: &[u8], at: usize) -> usize {
     0
 }
 
-fn ended(g: Game) -> Game {
-    let hub = g.hub;
-    Game {
-        more: false,
-        stands: g.stands,
-        hub,
-        at: g.at,
+// ---- playing
+
+// The head before the first `new`: no hub stands.
+fn no_head() -> Head {
+    Head {
+        pressed: 0.0,
+        released: 0.0,
+        reversed: false,
+        filters: false,
+        updates: false,
+        counter: 0,
+        pads: 0,
+        counts: [0u8; 4],
+        connected: [false; 4],
+        hats: [0u8; 4],
+        converts: [false; 4],
+        renamed: [false; 4],
+        newhats: [0u8; 4],
+        newconverts: [false; 4],
+        flags: [false; 24],
+        head: 0,
+        waiting: 0,
     }
 }
 
-// The next operation is read and played. The input ends with the last one; a payload that is too long or cut short ends it too.
-fn turn(g: Game, payload: &mut [u8], out: &mut [u8], text: &mut [u8]) -> Game {
-    let mut opening = [0u8; 5];
-    let got = io::read_full(STDIN_FILENO, &mut opening);
-    if got < OPENING {
-        return ended(g);
+// One operation, whose opcode and payload were read.
+fn played(
+    g: Game,
+    codes: &mut [u32; 208],
+    kinds: &mut [u8; 208],
+    names: &mut [u8; 208],
+    renames: &mut [u8; 208],
+    hasbutton: &mut [bool; 208],
+    hasaxis: &mut [bool; 208],
+    values: &mut Values,
+    times: &mut Times,
+    marks: &mut Marks,
+    queuebytes: &mut QueueBytes,
+    queuecodes: &mut QueueCodes,
+    opcode: u8,
+    payload: &[u8],
+    out: &mut [u8],
+    text: &mut [u8],
+) -> Game {
+    if replay_turns::changes(g.stands, opcode) {
+        let told = replay_turns::change(
+            g.head,
+            codes,
+            kinds,
+            names,
+            renames,
+            hasbutton,
+            hasaxis,
+            values,
+            times,
+            marks,
+            queuebytes,
+            queuecodes,
+            opcode,
+            payload,
+            out,
+        );
+        return replay_turns::after(told, opcode, out, text, g.at);
     }
-    let size = wire::read4(&opening, 1) as usize;
-    if payload.len() < size {
-        return ended(g);
+    if g.stands {
+        return replay_turns::query(
+            g,
+            codes,
+            kinds,
+            names,
+            renames,
+            hasbutton,
+            hasaxis,
+            values,
+            times,
+            marks,
+            opcode,
+            payload,
+            text,
+        );
     }
-    let came = io::read_full(STDIN_FILENO, &mut payload[..size]);
-    if came < size {
-        return ended(g);
-    }
-    let hub = g.hub;
-    let at = flushed(text, g.at);
-    let next = Game {
-        more: true,
-        stands: g.stands,
-        hub,
-        at,
-    };
-    played(next, opening[0], &payload[..size], out, text)
+    let mut next = g;
+    next.at = lines::append(text, g.at, b"NO HUB\n");
+    next
 }
 
 // Every operation of the input, and the rest of the text at its end.
 fn play_all(payload: &mut [u8], out: &mut [u8], text: &mut [u8]) {
-    let none = desk::new_hub(0.75, 0.5, false, false, false);
-    let hub = none.hub;
+    let mut codes = [0u32; 208];
+    let mut kinds = [0u8; 208];
+    let mut names = [0u8; 208];
+    let mut renames = [0u8; 208];
+    let mut hasbutton = [false; 208];
+    let mut hasaxis = [false; 208];
+    let mut values = [0.0f32; 1109];
+    let mut times = [0u64; 900];
+    let mut marks = [false; 627];
+    let mut queuebytes = [0u8; 192];
+    let mut queuecodes = [0u32; 64];
     let mut g = Game {
-        more: true,
         stands: false,
-        hub,
+        head: no_head(),
         at: 0,
     };
+    let mut o = next_operation(payload);
     let mut turns = u64::MAX;
-    while turns > 0 && g.more {
-        g = turn(g, payload, out, text);
+    while turns > 0 && o.more {
+        let size = o.size;
+        g = played(
+            g,
+            &mut codes,
+            &mut kinds,
+            &mut names,
+            &mut renames,
+            &mut hasbutton,
+            &mut hasaxis,
+            &mut values,
+            &mut times,
+            &mut marks,
+            &mut queuebytes,
+            &mut queuecodes,
+            o.opcode,
+            &payload[..size],
+            out,
+            text,
+        );
+        g.at = flushed(text, g.at);
+        o = next_operation(payload);
         turns -= 1;
     }
     write(text, g.at);

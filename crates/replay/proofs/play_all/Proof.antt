@@ -1,40 +1,55 @@
 -- `play_all` is safe and ends: the measure is the number of turns that are left.
-use mathlib.Core.Path.{_≡_}
-use Prim.Native.Nat.{_-_, _≤_}
+use mathlib.Core.Path.{_≡_, sym}
+use Prim.Native.Nat.{_≤_}
 use native.Mathlib.Omega.{arith}
 use lib.ListN.{length}
+use lib.Seq.{length-take-le}
 use borrow.Author.Needs.{needs}
 use Rattle.replay.proofs.play_all.Statement.{statement}
 use Rattle.replay.proofs.play_all.Tie as tie
-use Rattle.replay.proofs.play_all.Reads as reads
-use Rattle.replay.proofs.play_all.Lts as lts
-use Rattle.desk.proofs.new_hub.Reads as new-hub-reads
-use Rattle.replay.proofs.turn.Reads as turn-reads
-use Rattle.replay.proofs.write.Reads as write-reads
 
 abbrev Inv-loop : tie.InvT-loop
-Inv-loop payload₀ out₀ text₀ g₀ turns₀ payload out text g turns = (length payload ≡ length payload₀) × (length out ≡ length out₀) × (length text ≡ length text₀)
+Inv-loop payload₀ out₀ text₀ codes₀ kinds₀ names₀ renames₀ hasbutton₀ hasaxis₀ values₀ times₀ marks₀ queuebytes₀ queuecodes₀ g₀ o₀ turns₀ payload out text codes kinds names renames hasbutton hasaxis values times marks queuebytes queuecodes g o turns =
+    (length payload ≡ length payload₀) × (length out ≡ length out₀) × (length text ≡ length text₀) × (o .size ≤ length payload)
 
 abbrev μ-loop : tie.MeasureT-loop
-μ-loop payload₀ out₀ text₀ g₀ turns₀ payload out text g turns = turns
+μ-loop payload₀ out₀ text₀ codes₀ kinds₀ names₀ renames₀ hasbutton₀ hasaxis₀ values₀ times₀ marks₀ queuebytes₀ queuecodes₀ g₀ o₀ turns₀ payload out text codes kinds names renames hasbutton hasaxis values times marks queuebytes queuecodes g o turns =
+    turns
 
-new-hub-requires : tie.Need-new-hub-requires Inv-loop μ-loop
-new-hub-requires c κs = search needs
+no-head-requires : tie.Need-no-head-requires Inv-loop μ-loop
+no-head-requires c κs = search needs
+
+next-operation-requires : tie.Need-next-operation-requires Inv-loop μ-loop
+next-operation-requires c κs = search needs
 
 loop-holds : tie.Need-loop-holds Inv-loop μ-loop
 loop-holds c = omega arith
 
-turn-requires : tie.Need-turn-requires Inv-loop μ-loop
-turn-requires c κs = search needs
+slice-reshare-prefix-played : tie.Need-slice-reshare-prefix-played Inv-loop μ-loop
+slice-reshare-prefix-played c = search needs
+
+slice-aggregate-played : tie.Need-slice-aggregate-played Inv-loop μ-loop
+slice-aggregate-played c = sym (length-take-le _ _ (omega arith))
+
+played-requires : tie.Need-played-requires Inv-loop μ-loop
+played-requires c κs = search needs
+
+flushed-requires : tie.Need-flushed-requires Inv-loop μ-loop
+flushed-requires c κs = search needs
+
+next-operation-requires-2 : tie.Need-next-operation-requires-2 Inv-loop μ-loop
+next-operation-requires-2 c κs = search needs
 
 sub-turns : tie.Need-sub-turns Inv-loop μ-loop
-sub-turns c = omega arith
+sub-turns c = omega (arith, c .before .before .before .before .before .before .before .before .before .before .before .before .before .before .before .before .before .before .before .before .before .before .before .before .before .before .loop-test .taken)
 
 loop-less : tie.Need-loop-less Inv-loop μ-loop
-loop-less c = omega arith
+loop-less c = omega (arith, c .before .before .before .before .before .before .before .before .before .before .before .before .before .before .before .before .before .before .before .before .before .before .before .before .before .before .loop-test .taken)
 
 loop-again : tie.Need-loop-again Inv-loop μ-loop
-loop-again c = omega arith
+loop-again c =
+    let kept = c .before .before .before .before .before .before .before .before .before .before .before .before .before .before .before .before .before .before .before .before .before .before .before .before .before .before .before .loop .inv in
+    omega (arith, c .before .payload2 .given, c .before .before .before .before .before .before .before .text .given, c .before .before .before .before .before .before .before .before .before .out .given, kept .0, kept .1, kept .2, c .before .before .next-operation2 .ensures)
 
 write-requires : tie.Need-write-requires Inv-loop μ-loop
 write-requires c κs = search needs
@@ -57,9 +72,14 @@ play-all-spec =
     (tie.spec
     Inv-loop
     μ-loop
-    new-hub-requires
+    no-head-requires
+    next-operation-requires
     loop-holds
-    turn-requires
+    slice-reshare-prefix-played
+    slice-aggregate-played
+    played-requires
+    flushed-requires
+    next-operation-requires-2
     sub-turns
     loop-less
     loop-again

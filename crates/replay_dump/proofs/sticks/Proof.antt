@@ -1,24 +1,17 @@
--- `dump::sticks` is safe and ends. The measure is how many places are left.
+-- `sticks` is safe and ends. The measure is how many places are left.
 use mathlib.Core.Path.{_≡_}
 use Prim.Native.Nat.{_-_, _≤_}
 use native.Mathlib.Omega.{arith}
 use lib.ListN.{length}
 use borrow.Author.Needs.{needs}
-use Rattle.pad.specs.Arrays.{unmapped}
-use Rattle.answers.proofs.dump.sticks.Statement.{statement}
-use Rattle.answers.proofs.dump.sticks.Tie as tie
-use Rattle.answers.proofs.dump.sticks.Reads as reads
-use Rattle.answers.proofs.dump.sticks.Lts as lts
-use Rattle.answers.proofs.dump.place.Reads as place-reads
-use Rattle.answers.proofs.dump.stick.Reads as stick-reads
-use Rattle.pad.proofs.bool_at.Reads as bool-at-reads
-use Rattle.pad.proofs.code_at.Reads as code-at-reads
+use Rattle.replay_dump.proofs.sticks.Statement.{statement}
+use Rattle.replay_dump.proofs.sticks.Tie as tie
 
 abbrev Inv-loop : tie.InvT-loop
-Inv-loop text₀ at p h next₀ i₀ text next i = (i ≤ 52) × (length text ≡ length text₀)
+Inv-loop codes hasaxis values times text₀ at p next₀ i₀ text next i = (i ≤ 52) × (length text ≡ length text₀)
 
 abbrev μ-loop : tie.MeasureT-loop
-μ-loop text₀ at p h next₀ i₀ text next i = 52 - i
+μ-loop codes hasaxis values times text₀ at p next₀ i₀ text next i = 52 - i
 
 loop-holds : tie.Need-loop-holds Inv-loop μ-loop
 loop-holds c = omega arith
@@ -26,11 +19,8 @@ loop-holds c = omega arith
 place-requires : tie.Need-place-requires Inv-loop μ-loop
 place-requires c κs = search needs
 
-mul-a : tie.Need-mul-a Inv-loop μ-loop
-mul-a c = omega arith
-
-element-copy-out-a : tie.Need-element-copy-out-a Inv-loop μ-loop
-element-copy-out-a c = search (needs, unmapped)
+axis-at-requires : tie.Need-axis-at-requires Inv-loop μ-loop
+axis-at-requires c κs = search needs
 
 bool-at-requires : tie.Need-bool-at-requires Inv-loop μ-loop
 bool-at-requires c κs = search needs
@@ -64,8 +54,7 @@ sticks-spec =
     μ-loop
     loop-holds
     place-requires
-    mul-a
-    element-copy-out-a
+    axis-at-requires
     bool-at-requires
     code-at-requires
     stick-requires

@@ -1,21 +1,17 @@
--- `dump::dump` is safe and ends. The measure is how many pads are left.
+-- `dump` is safe and ends. The measure is how many pads are left.
 use mathlib.Core.Path.{_≡_}
 use Prim.Native.Nat.{_-_, _≤_}
 use native.Mathlib.Omega.{arith}
 use lib.ListN.{length}
 use borrow.Author.Needs.{needs}
-use Rattle.answers.proofs.dump.dump.Statement.{statement}
-use Rattle.answers.proofs.dump.dump.Tie as tie
-use Rattle.answers.proofs.dump.dump.Reads as reads
-use Rattle.answers.proofs.dump.dump.Lts as lts
-use Rattle.answers.proofs.dump.last.Reads as last-reads
-use Rattle.answers.proofs.dump.pad_lines.Reads as pad-lines-reads
+use Rattle.replay_dump.proofs.dump.Statement.{statement}
+use Rattle.replay_dump.proofs.dump.Tie as tie
 
 abbrev Inv-loop : tie.InvT-loop
-Inv-loop h text₀ at next₀ p₀ text next p = (p ≤ 4) × (length text ≡ length text₀)
+Inv-loop head codes hasbutton hasaxis values times marks text₀ at next₀ p₀ text next p = (p ≤ 4) × (length text ≡ length text₀)
 
 abbrev μ-loop : tie.MeasureT-loop
-μ-loop h text₀ at next₀ p₀ text next p = 4 - p
+μ-loop head codes hasbutton hasaxis values times marks text₀ at next₀ p₀ text next p = 4 - p
 
 loop-holds : tie.Need-loop-holds Inv-loop μ-loop
 loop-holds c = omega arith

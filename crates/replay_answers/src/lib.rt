@@ -1,4 +1,7 @@
-// The line of each answer, appended to the text.
+// What the operations of the oracle's scenario form (`oracle/README.md`) answer, and the lines that say so. Each function appends to a
+// buffer at a place and answers the next place; where the buffer has no room it writes nothing there, as `lines` does. Proved: every function is safe and ends
+// for every input. What the lines say is not stated; they are compared with the oracle's.
+use hub::Head;
 use lines::NEWLINE;
 use lines::SPACE;
 use rules::Answer;
@@ -12,12 +15,65 @@ use rules::RegisterAnswer;
 use rules::RepeatAnswer;
 use rules::TruthAnswer;
 use rules::ValueAnswer;
+ghost use mathlib.Core.Path.{_≡_};
+
+// ---- the answers
+
+// Of an operation that leaves the hub as it is: `Nothing` of what is none.
+pub enum Asked {
+    Pressed(TruthAnswer),
+    Value(ValueAnswer),
+    Threshold(ValueAnswer),
+    Button(ButtonAnswer),
+    Axis(AxisAnswer),
+    Name(NumberAnswer),
+    Code(NumberAnswer),
+    Stands(TruthAnswer),
+    Repeat(RepeatAnswer),
+    Waiting(u8),
+    Counter(u64),
+    Nothing,
+}
+
+// Of one that changes it.
+pub enum Changed {
+    Begun(Answer),
+    Registered(RegisterAnswer),
+    Renamed(Answer),
+    Pumped(PumpAnswer),
+    Updated(Answer),
+    Inserted(Answer),
+    Counter(u64),
+    Nothing,
+}
+
+// The head after an operation that changes the hub, and its answer.
+pub struct Told {
+    pub head: Head,
+    pub answer: Changed,
+}
+
+pub fn tell(head: Head, answer: Changed) -> Told
+    ensures { λ r. ⌜ (r .head ≡ head) × (r .answer ≡ answer) ⌝ }
+{
+    Told {
+        head: head,
+        answer: answer,
+    }
+}
+
+// ---- words
 
 fn bit(b: bool) -> u64 {
     if b { 1 } else { 0 }
 }
 
-pub fn refused(text: &mut [u8], at: usize, number: u8) -> usize {
+// What is no operation of the form.
+fn none(text: &mut [u8], at: usize) -> usize {
+    lines::append(text, at, b"NO OPERATION\n")
+}
+
+fn refused(text: &mut [u8], at: usize, number: u8) -> usize {
     lines::labelled(text, at, b"REFUSED ", number as u64, NEWLINE)
 }
 
@@ -25,7 +81,7 @@ fn absent(text: &mut [u8], at: usize) -> usize {
     lines::append(text, at, b"ABSENT\n")
 }
 
-pub fn truth(text: &mut [u8], at: usize, label: &[u8], b: bool) -> usize {
+fn truth(text: &mut [u8], at: usize, label: &[u8], b: bool) -> usize {
     lines::labelled(text, at, label, bit(b), NEWLINE)
 }
 
@@ -52,18 +108,22 @@ pub fn axis_words(text: &mut [u8], at: usize, label: &[u8], a: AxisData) -> usiz
 
 // ---- the answers of the calls
 
-pub fn done(text: &mut [u8], at: usize, word: &[u8], answer: Answer) -> usize {
+fn done(text: &mut [u8], at: usize, word: &[u8], answer: Answer) -> usize {
     match answer {
         Answer::Done => lines::append(text, at, word),
         Answer::Refused(number) => refused(text, at, number),
     }
 }
 
-pub fn registered(text: &mut [u8], at: usize, answer: RegisterAnswer) -> usize {
+fn registered(text: &mut [u8], at: usize, answer: RegisterAnswer) -> usize {
     match answer {
         RegisterAnswer::Pad(p) => lines::labelled(text, at, b"PAD ", p as u64, NEWLINE),
         RegisterAnswer::Refused(number) => refused(text, at, number),
     }
+}
+
+fn counted(text: &mut [u8], at: usize, counter: u64) -> usize {
+    lines::labelled(text, at, b"COUNTER ", counter, NEWLINE)
 }
 
 // The place, the events written and the steps of a pump.
@@ -74,7 +134,7 @@ fn stopped(text: &mut [u8], at: usize, place: usize, count: usize, steps: usize)
 }
 
 // Each event of the out buffer, then how the pump ended.
-pub fn pumped(text: &mut [u8], at: usize, out: &[u8], answer: PumpAnswer) -> usize {
+fn pumped(text: &mut [u8], at: usize, out: &[u8], answer: PumpAnswer) -> usize {
     match answer {
         PumpAnswer::Drained(place, count, steps) => {
             let last = lines::lines(text, at, out, count);
@@ -99,7 +159,7 @@ pub fn pumped(text: &mut [u8], at: usize, out: &[u8], answer: PumpAnswer) -> usi
     }
 }
 
-pub fn repeated(text: &mut [u8], at: usize, answer: RepeatAnswer) -> usize {
+fn repeated(text: &mut [u8], at: usize, answer: RepeatAnswer) -> usize {
     match answer {
         RepeatAnswer::Due(e) => lines::line(text, at, events::form_of(e)),
         RepeatAnswer::Quiet => lines::append(text, at, b"NONE\n"),
@@ -109,14 +169,14 @@ pub fn repeated(text: &mut [u8], at: usize, answer: RepeatAnswer) -> usize {
 
 // ---- the answers of the queries
 
-pub fn is(text: &mut [u8], at: usize, label: &[u8], answer: TruthAnswer) -> usize {
+fn is(text: &mut [u8], at: usize, label: &[u8], answer: TruthAnswer) -> usize {
     match answer {
         TruthAnswer::Is(b) => truth(text, at, label, b),
         TruthAnswer::Refused(number) => refused(text, at, number),
     }
 }
 
-pub fn value(text: &mut [u8], at: usize, label: &[u8], answer: ValueAnswer) -> usize {
+fn value(text: &mut [u8], at: usize, label: &[u8], answer: ValueAnswer) -> usize {
     match answer {
         ValueAnswer::Value(v) => bits(text, at, label, v, NEWLINE),
         ValueAnswer::Absent => absent(text, at),
@@ -124,7 +184,7 @@ pub fn value(text: &mut [u8], at: usize, label: &[u8], answer: ValueAnswer) -> u
     }
 }
 
-pub fn button(text: &mut [u8], at: usize, answer: ButtonAnswer) -> usize {
+fn button(text: &mut [u8], at: usize, answer: ButtonAnswer) -> usize {
     match answer {
         ButtonAnswer::Data(b) => button_words(text, at, b"BUTTON ", b),
         ButtonAnswer::Absent => absent(text, at),
@@ -132,7 +192,7 @@ pub fn button(text: &mut [u8], at: usize, answer: ButtonAnswer) -> usize {
     }
 }
 
-pub fn stick(text: &mut [u8], at: usize, answer: AxisAnswer) -> usize {
+fn stick(text: &mut [u8], at: usize, answer: AxisAnswer) -> usize {
     match answer {
         AxisAnswer::Data(a) => axis_words(text, at, b"STICK ", a),
         AxisAnswer::Absent => absent(text, at),
@@ -141,7 +201,7 @@ pub fn stick(text: &mut [u8], at: usize, answer: AxisAnswer) -> usize {
 }
 
 // 255 where the code has no name.
-pub fn name(text: &mut [u8], at: usize, answer: NumberAnswer) -> usize {
+fn name(text: &mut [u8], at: usize, answer: NumberAnswer) -> usize {
     match answer {
         NumberAnswer::Number(n) => lines::labelled(text, at, b"NAME ", n as u64, NEWLINE),
         NumberAnswer::Absent => lines::append(text, at, b"NAME 255\n"),
@@ -149,7 +209,7 @@ pub fn name(text: &mut [u8], at: usize, answer: NumberAnswer) -> usize {
     }
 }
 
-pub fn code(text: &mut [u8], at: usize, answer: NumberAnswer) -> usize {
+fn code(text: &mut [u8], at: usize, answer: NumberAnswer) -> usize {
     match answer {
         NumberAnswer::Number(n) => {
             let next = lines::append(text, at, b"CODE ");
@@ -157,5 +217,38 @@ pub fn code(text: &mut [u8], at: usize, answer: NumberAnswer) -> usize {
         }
         NumberAnswer::Absent => absent(text, at),
         NumberAnswer::Refused(number) => refused(text, at, number),
+    }
+}
+
+// ---- the lines of any operation
+
+pub fn query_line(text: &mut [u8], at: usize, answer: Asked) -> usize {
+    match answer {
+        Asked::Pressed(a) => is(text, at, b"IS ", a),
+        Asked::Value(a) => value(text, at, b"VALUE ", a),
+        Asked::Threshold(a) => value(text, at, b"THRESHOLD ", a),
+        Asked::Button(a) => button(text, at, a),
+        Asked::Axis(a) => stick(text, at, a),
+        Asked::Name(a) => name(text, at, a),
+        Asked::Code(a) => code(text, at, a),
+        Asked::Stands(a) => is(text, at, b"STANDS ", a),
+        Asked::Repeat(a) => repeated(text, at, a),
+        Asked::Waiting(n) => lines::labelled(text, at, b"WAITING ", n as u64, NEWLINE),
+        Asked::Counter(n) => counted(text, at, n),
+        Asked::Nothing => none(text, at),
+    }
+}
+
+// The events of a pump stand in the out buffer.
+pub fn call_lines(text: &mut [u8], at: usize, out: &[u8], answer: Changed) -> usize {
+    match answer {
+        Changed::Begun(a) => done(text, at, b"HUB\n", a),
+        Changed::Registered(a) => registered(text, at, a),
+        Changed::Renamed(a) => done(text, at, b"RENAMED\n", a),
+        Changed::Pumped(a) => pumped(text, at, out, a),
+        Changed::Updated(a) => done(text, at, b"UPDATED\n", a),
+        Changed::Inserted(a) => done(text, at, b"INSERTED\n", a),
+        Changed::Counter(n) => counted(text, at, n),
+        Changed::Nothing => none(text, at),
     }
 }

@@ -1,24 +1,17 @@
--- `dump::buttons` is safe and ends. The measure is how many places are left.
+-- `buttons` is safe and ends. The measure is how many places are left.
 use mathlib.Core.Path.{_≡_}
 use Prim.Native.Nat.{_-_, _≤_}
 use native.Mathlib.Omega.{arith}
 use lib.ListN.{length}
 use borrow.Author.Needs.{needs}
-use Rattle.pad.specs.Arrays.{unmapped}
-use Rattle.answers.proofs.dump.buttons.Statement.{statement}
-use Rattle.answers.proofs.dump.buttons.Tie as tie
-use Rattle.answers.proofs.dump.buttons.Reads as reads
-use Rattle.answers.proofs.dump.buttons.Lts as lts
-use Rattle.answers.proofs.dump.button.Reads as button-reads
-use Rattle.answers.proofs.dump.place.Reads as place-reads
-use Rattle.pad.proofs.bool_at.Reads as bool-at-reads
-use Rattle.pad.proofs.code_at.Reads as code-at-reads
+use Rattle.replay_dump.proofs.buttons.Statement.{statement}
+use Rattle.replay_dump.proofs.buttons.Tie as tie
 
 abbrev Inv-loop : tie.InvT-loop
-Inv-loop text₀ at p h next₀ i₀ text next i = (i ≤ 52) × (length text ≡ length text₀)
+Inv-loop codes hasbutton values times marks text₀ at p next₀ i₀ text next i = (i ≤ 52) × (length text ≡ length text₀)
 
 abbrev μ-loop : tie.MeasureT-loop
-μ-loop text₀ at p h next₀ i₀ text next i = 52 - i
+μ-loop codes hasbutton values times marks text₀ at p next₀ i₀ text next i = 52 - i
 
 loop-holds : tie.Need-loop-holds Inv-loop μ-loop
 loop-holds c = omega arith
@@ -26,11 +19,8 @@ loop-holds c = omega arith
 place-requires : tie.Need-place-requires Inv-loop μ-loop
 place-requires c κs = search needs
 
-mul-b : tie.Need-mul-b Inv-loop μ-loop
-mul-b c = omega arith
-
-element-copy-out-b : tie.Need-element-copy-out-b Inv-loop μ-loop
-element-copy-out-b c = search (needs, unmapped)
+button-at-requires : tie.Need-button-at-requires Inv-loop μ-loop
+button-at-requires c κs = search needs
 
 bool-at-requires : tie.Need-bool-at-requires Inv-loop μ-loop
 bool-at-requires c κs = search needs
@@ -64,8 +54,7 @@ buttons-spec =
     μ-loop
     loop-holds
     place-requires
-    mul-b
-    element-copy-out-b
+    button-at-requires
     bool-at-requires
     code-at-requires
     button-requires

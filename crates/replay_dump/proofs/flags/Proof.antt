@@ -1,14 +1,14 @@
--- `dump::flags` is safe and ends. The measure is how many flags are left.
+-- `flags` is safe and ends. The measure is how many flags are left.
 use mathlib.Core.Path.{_≡_}
 use Prim.Native.Nat.{_-_, _≤_}
 use native.Mathlib.Omega.{arith}
 use lib.ListN.{length}
 use borrow.Author.Needs.{needs}
-use Rattle.answers.proofs.dump.flags.Statement.{statement}
-use Rattle.answers.proofs.dump.flags.Tie as tie
-use Rattle.answers.proofs.dump.flags.Reads as reads
-use Rattle.answers.proofs.dump.flags.Lts as lts
-use Rattle.answers.proofs.dump.digit.Reads as digit-reads
+use Rattle.replay_dump.proofs.flags.Statement.{statement}
+use Rattle.replay_dump.proofs.flags.Tie as tie
+use Rattle.replay_dump.proofs.flags.Reads as reads
+use Rattle.replay_dump.proofs.flags.Lts as lts
+use Rattle.replay_dump.proofs.digit.Reads as digit-reads
 use Rattle.lines.proofs.append.Reads as append-reads
 use Rattle.pad.proofs.flag_at.Reads as flag-at-reads
 

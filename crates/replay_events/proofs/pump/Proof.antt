@@ -1,24 +1,13 @@
--- `play::pump` is safe and ends: the part of the out buffer that is lent lies in it.
+-- `pump` is safe and ends: the part of the out buffer that is lent lies in it.
 use mathlib.Core.Path.{sym}
 use native.Mathlib.Omega.{arith}
 use lib.Seq.{length-take-le}
 use borrow.Author.Needs.{needs}
-use Rattle.replay.proofs.play.pump.Statement.{statement}
-use Rattle.replay.proofs.play.pump.Tie as tie
-use Rattle.replay.proofs.play.pump.Reads as reads
-use Rattle.replay.proofs.play.pump.Lts as lts
-use Rattle.answers.proofs.say.pumped.Reads as pumped-reads
-use Rattle.pump.proofs.pump.Reads as pump-reads
-use Rattle.choices.proofs.least.Reads as least-reads
-use Rattle.replay.proofs.play.none.Reads as none-reads
-use Rattle.wire.proofs.read2.Reads as read2-reads
-use Rattle.wire.proofs.read4.Reads as read4-reads
+use Rattle.replay_events.proofs.pump.Statement.{statement}
+use Rattle.replay_events.proofs.pump.Tie as tie
 
-none-requires : tie.Need-none-requires
-none-requires c κs = search needs
-
-same-length : tie.Need-same-length
-same-length c = search needs
+tell-requires : tie.Need-tell-requires
+tell-requires c κs = search needs
 
 returns : tie.Need-returns
 returns c = search needs
@@ -59,14 +48,11 @@ read2-requires c κs = search needs
 pump-requires : tie.Need-pump-requires
 pump-requires c κs = search needs
 
-pumped-requires : tie.Need-pumped-requires
-pumped-requires c κs = search needs
+tell-requires-2 : tie.Need-tell-requires-2
+tell-requires-2 c κs = search needs
 
-same-length-2 : tie.Need-same-length-2
-same-length-2 c = search needs
-
-same-length-3 : tie.Need-same-length-3
-same-length-3 c = search needs
+same-length : tie.Need-same-length
+same-length c = search needs
 
 returns-2 : tie.Need-returns-2
 returns-2 c = search needs
@@ -75,8 +61,7 @@ pub pump-spec : {M : Type 1} → statement M
 pump-spec =
     tie.close
     (tie.spec
-    none-requires
-    same-length
+    tell-requires
     returns
     read4-requires
     cast-place
@@ -90,7 +75,6 @@ pump-spec =
     slice-aggregate-pump
     read2-requires
     pump-requires
-    pumped-requires
-    same-length-2
-    same-length-3
+    tell-requires-2
+    same-length
     returns-2)

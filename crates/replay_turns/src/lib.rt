@@ -1,0 +1,163 @@
+// One operation of the oracle's scenario form (`oracle/README.md`) with its lines, by what it does to the hub: one that changes it, and one that leaves it as it is.
+use columns::Marks;
+use columns::QueueBytes;
+use columns::QueueCodes;
+use columns::Times;
+use columns::Values;
+use hub::Head;
+use replay_answers::Changed;
+use replay_answers::Told;
+use replay_desk::NEW;
+use rules::Answer;
+
+const DUMP: u8 = 24;
+
+// Between two operations: whether a hub stands, its head, and the place behind the text so far.
+pub struct Game {
+    pub stands: bool,
+    pub head: Head,
+    pub at: usize,
+}
+
+// ---- operations that change the hub
+
+// Whether an operation changes the hub: but for `new` it needs one that stands.
+pub fn changes(stands: bool, opcode: u8) -> bool {
+    if opcode == NEW {
+        return true;
+    }
+    if stands {
+        return replay_desk::sets_up(opcode) || replay_events::sends(opcode);
+    }
+    false
+}
+
+// An operation that changes the hub.
+pub fn change(
+    head: Head,
+    codes: &mut [u32; 208],
+    kinds: &mut [u8; 208],
+    names: &mut [u8; 208],
+    renames: &mut [u8; 208],
+    hasbutton: &mut [bool; 208],
+    hasaxis: &mut [bool; 208],
+    values: &mut Values,
+    times: &mut Times,
+    marks: &mut Marks,
+    queuebytes: &mut QueueBytes,
+    queuecodes: &mut QueueCodes,
+    opcode: u8,
+    payload: &[u8],
+    out: &mut [u8],
+) -> Told {
+    if replay_desk::sets_up(opcode) {
+        return replay_desk::set_up(
+            head,
+            codes,
+            kinds,
+            names,
+            renames,
+            hasbutton,
+            hasaxis,
+            values,
+            times,
+            marks,
+            queuebytes,
+            queuecodes,
+            opcode,
+            payload,
+        );
+    }
+    replay_events::send(
+        head,
+        codes,
+        kinds,
+        names,
+        renames,
+        hasbutton,
+        hasaxis,
+        values,
+        times,
+        marks,
+        queuebytes,
+        queuecodes,
+        opcode,
+        payload,
+        out,
+    )
+}
+
+// Whether a hub stands after `new`: it may have been refused, or be no operation of the form.
+fn begun(answer: Changed) -> bool {
+    match answer {
+        Changed::Begun(a) => match a {
+            Answer::Done => true,
+            Answer::Refused(_) => false,
+        },
+        _ => false,
+    }
+}
+
+// The lines of what an operation that changes the hub told.
+pub fn after(told: Told, opcode: u8, out: &[u8], text: &mut [u8], at: usize) -> Game {
+    let head = told.head;
+    let answer = told.answer;
+    let next = replay_answers::call_lines(text, at, out, answer);
+    Game {
+        stands: opcode != NEW || begun(answer),
+        head,
+        at: next,
+    }
+}
+
+// ---- operations that leave the hub as it is
+
+// The dump, or a query.
+pub fn query<'s>(
+    g: Game,
+    codes: &'s [u32; 208],
+    kinds: &[u8; 208],
+    names: &'s [u8; 208],
+    renames: &'s [u8; 208],
+    hasbutton: &[bool; 208],
+    hasaxis: &[bool; 208],
+    values: &Values,
+    times: &Times,
+    marks: &Marks,
+    opcode: u8,
+    payload: &[u8],
+    text: &mut [u8],
+) -> Game {
+    let mut next = g;
+    let head = g.head;
+    if opcode == DUMP {
+        next.at = replay_dump::dump(
+            head,
+            codes,
+            hasbutton,
+            hasaxis,
+            values,
+            times,
+            marks,
+            text,
+            g.at,
+        );
+        return next;
+    }
+    let answer = replay_queries::ask(
+        head,
+        codes,
+        kinds,
+        names,
+        renames,
+        hasbutton,
+        hasaxis,
+        values,
+        times,
+        marks,
+        opcode,
+        payload,
+    );
+    next.at = replay_answers::query_line(text, g.at, answer);
+    next
+}
