@@ -4,7 +4,7 @@
 # lists that `values` and `decisions` play against gilrs.
 set -euo pipefail
 oracle=$(cd "$(dirname "${BASH_SOURCE[0]}")" && pwd)
-forms=$oracle/../crates/forms
+forms=$oracle/../crates/compare_forms
 folder=$(mktemp -d)
 trap 'rm -rf "$folder"' EXIT
 "$oracle/build.sh"

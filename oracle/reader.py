@@ -3,7 +3,7 @@
 
     python3 oracle/reader.py make [FOLDER]
 
-writes stdin and stdout (those of crates/forms if no folder is named): good and damaged sheets, records and
+writes stdin and stdout (those of crates/compare_forms if no folder is named): good and damaged sheets, records and
 events, each with the pads that it meets, and this reader's answer to each. Readers in other languages are compared with
 that list.
 
@@ -345,4 +345,4 @@ def make(folder):
 if __name__ == "__main__":
     if sys.argv[1:2] != ["make"] or len(sys.argv) > 3:
         sys.exit(__doc__)
-    make(sys.argv[2] if len(sys.argv) == 3 else os.path.join(os.path.dirname(os.path.abspath(__file__)), "..", "crates", "forms"))
+    make(sys.argv[2] if len(sys.argv) == 3 else os.path.join(os.path.dirname(os.path.abspath(__file__)), "..", "crates", "compare_forms"))
