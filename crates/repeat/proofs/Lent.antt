@@ -1,4 +1,4 @@
--- What the walks of `scan` and `first_due` both speak of: the types of their parameters, a local that is read, and a number that is put in front of what is owned.
+-- What the walks of `scan` and `first_of_pad` both speak of: the type of a record, a local that is read, and a number that is put in front of what is owned.
 use mathlib.Core.Path.{_≡_, refl}
 use mathlib.Core.List.{List, [], _∷_}
 use Prim.Native.Nat.{ℕ, _<_, _^_}
@@ -12,8 +12,7 @@ use types.Kit.{Given, Item, Goal, Step, step, ‵, nth, _$_, fjoin}
 use types.Run.{Opd, load, from, stop, look}
 use denote.RattleType.{RattleType}
 use denote.Laws.{Is}
-use denote.Array.{Array}
-use denote.Builtin.{bool, u64}
+use denote.Builtin.{u64}
 use denote.Plain.{uint-vals, uint-makes}
 use denote.Steps.{owned}
 use denote.Struct.Laws as LL
@@ -21,15 +20,9 @@ use Rattle.rules.specs.declared.ButtonData.{ButtonData}
 use Rattle.rules.proofs.ButtonData as T
 use Rattle.rules.proofs.ButtonData.Laws as T′
 
--- a button record, the pads' column and the places' column
+-- a button record
 abbrev pub Record : RattleType
 Record = T.the-row
-
-abbrev pub Pads : RattleType
-Pads = Array bool 4
-
-abbrev pub Places : RattleType
-Places = Array bool 208
 
 -- the machine values of a record
 abbrev pub vals : ButtonData → List Val

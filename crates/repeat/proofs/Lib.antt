@@ -1,3 +1,3 @@
 pub mod Times
+pub mod Turns
 pub mod Lent
-pub mod Runs

@@ -1,7 +1,7 @@
-// Repeat: gilrs's `Repeat`, with the clock as input. Whether a record is due, the event that it gives, and the scan of a pad's records, a lent run, for the first that is due.
+// Repeat: gilrs's `Repeat`, with the clock as input. Whether a record is due, the event that it gives, and the scan of a pad's records for the first due one.
 ghost use mathlib.Core.Path.{_≡_};
-ghost use mathlib.Core.Bool.{true, false};
-ghost use Prim.Native.Nat.{_<_, _≤_};
+ghost use mathlib.Core.Bool.{true};
+ghost use Prim.Native.Nat.{_≤_};
 ghost use lib.ListN.{length};
 ghost use Rattle.rules.specs.Repeat.{waitOf, dueOf, repeatedOf};
 ghost use Rattle.repeat.specs.Run.{firstOf};
@@ -57,7 +57,7 @@ pub fn repeated(
 }
 
 // "Codes rising; the first due button": place order is that order. The records of one pad are a lent run, one for each of its places.
-fn scan_run(buttons: &[ButtonData], after: u64, every: u64, clock: u64) -> usize
+fn scan(buttons: &[ButtonData], after: u64, every: u64, clock: u64) -> usize
     requires { ⌜ 52 ≤ length (now buttons) ⌝ }
     ensures { λ r. ⌜ r ≡ firstOf (now (buttons .entry)) after every clock ⌝ }
 {
@@ -75,5 +75,5 @@ fn scan_run(buttons: &[ButtonData], after: u64, every: u64, clock: u64) -> usize
 pub fn first_of_pad(buttons: [ButtonData; 52], after: u64, every: u64, clock: u64) -> usize
     ensures { λ r. ⌜ r ≡ firstOf buttons after every clock ⌝ }
 {
-    scan_run(&buttons, after, every, clock)
+    scan(&buttons, after, every, clock)
 }

@@ -142,26 +142,21 @@ fn played(
         );
         return replay_turns::after(told, opcode, out, text, g.at);
     }
-    if g.stands {
-        return replay_turns::query(
-            g,
-            codes,
-            kinds,
-            names,
-            renames,
-            hasbutton,
-            hasaxis,
-            values,
-            times,
-            marks,
-            opcode,
-            payload,
-            text,
-        );
-    }
-    let mut next = g;
-    next.at = lines::append(text, g.at, b"NO HUB\n");
-    next
+    replay_turns::query(
+        g,
+        codes,
+        kinds,
+        names,
+        renames,
+        hasbutton,
+        hasaxis,
+        values,
+        times,
+        marks,
+        opcode,
+        payload,
+        text,
+    )
 }
 
 // Every operation of the input, and the rest of the text at its end.

@@ -112,7 +112,7 @@ pub fn after(told: Told, opcode: u8, out: &[u8], text: &mut [u8], at: usize) -> 
 
 // ---- operations that leave the hub as it is
 
-// The dump, or a query.
+// The dump, or a query; without a hub it says so.
 pub fn query<'s>(
     g: Game,
     codes: &'s [u32; 208],
@@ -130,6 +130,10 @@ pub fn query<'s>(
 ) -> Game {
     let mut next = g;
     let head = g.head;
+    if !g.stands {
+        next.at = lines::append(text, g.at, b"NO HUB\n");
+        return next;
+    }
     if opcode == DUMP {
         next.at = replay_dump::dump(
             head,

@@ -1,5 +1,5 @@
--- `first_of_pad` meets its contract: a walk of its MIR, by hand. The records lie in a local, are lent to `scan_run` for a lifetime that the walk makes, and are
--- taken back when the call is over. All that the walk knows of `scan_run` is that it meets its contract, which says of the lent run what `first_of_pad` says of
+-- `first_of_pad` meets its contract: a walk of its MIR, by hand. The records lie in a local, are lent to `scan` for a lifetime that the walk makes, and are
+-- taken back when the call is over. All that the walk knows of `scan` is that it meets its contract, which says of the lent run what `first_of_pad` says of
 -- the array.
 use mathlib.Core.Path.{_≡_, refl, sym}
 use mathlib.Core.List.{List, [], _∷_}
@@ -52,10 +52,10 @@ use Rattle.rules.proofs.ButtonData as T
 use Rattle.rules.proofs.ButtonData.Laws as T′
 use Rattle.repeat.specs.Run.{firstOf}
 use Rattle.repeat.proofs.Lent.{Record, vals, held, Fits, number}
-use Rattle.repeat.proofs.scan_run as g
-use Rattle.repeat.proofs.scan_run.Symbol as g-def
-use Rattle.repeat.proofs.scan_run.Symbol.{name as #repeat·scan-run}
-use Rattle.repeat.proofs.scan_run.Met as g-thm
+use Rattle.repeat.proofs.scan as g
+use Rattle.repeat.proofs.scan.Symbol as g-def
+use Rattle.repeat.proofs.scan.Symbol.{name as #repeat·scan}
+use Rattle.repeat.proofs.scan.Met as g-thm
 use Rattle.repeat.proofs.first_of_pad.Key.{name as #repeat·first-of-pad}
 use Rattle.repeat.proofs.first_of_pad as f
 use Rattle.repeat.proofs.first_of_pad.Statement as stated
@@ -100,7 +100,7 @@ module _ {M : Type 1} (𝓤 : URA M) (H : Heap 𝓤) (A : Atoms 𝓤) (W : Given
   enough : placesPerPad ≤ length ys
   enough = omega (arith, len)
 
-  -- ---- the call of `scan_run`, for the lifetime α, on the records at the block l
+  -- ---- the call of `scan`, for the lifetime α, on the records at the block l
   module _ (α l : ℕ) (γ : GName) where
     abbrev run-of : RefT (List ButtonData)
     run-of = record { ptr = (l, 0); name = γ; now = ys }
@@ -150,7 +150,7 @@ module _ {M : Type 1} (𝓤 : URA M) (H : Heap 𝓤) (A : Atoms 𝓤) (W : Given
       suffices ! _ (ends-at 𝓤 H A f.ended stayed (f.clauses 𝓤 H A at-mem run) W ((tt, tt, tt, x, at), tt) w r (tt, (tt, (tt, (tt, tt)))) (tt, (tt, (tt, (tt, tt))))) $ says ! answer $
       nothing ! $ number ! clock clock< $ number ! every every< $ number ! after after< $ move ! (1 ∷ 0 ∷ []) $ fjoin ! $ nothing ! $ done !
 
-  module _ (C : Calls 𝓤 H) (Λ : Loops 𝓤 H) (fm : FmC 𝓤 H (W .laws) C) (known : Triple 𝓤 (C #repeat·scan-run) (Scan 𝓤 H A at-mem run)) where
+  module _ (C : Calls 𝓤 H) (Λ : Loops 𝓤 H) (fm : FmC 𝓤 H (W .laws) C) (known : Triple 𝓤 (C #repeat·scan) (Scan 𝓤 H A at-mem run)) where
     walk : ent 𝓤 (onEntry 𝓤 H A f.signature tt tt x at) (WpFn 𝓤 H C Λ code.function (flat rows at) Post)
     unfolding partOf
     walk =
@@ -174,7 +174,7 @@ module _ {M : Type 1} (𝓤 : URA M) (H : Heap 𝓤) (A : Atoms 𝓤) (W : Given
         (lends-shr-slice 𝓤 H A W Record (named 0) (α ∷ []) fullShare ys l₅ 0 room) $ await ! tt $ pick ! (λ γ. split ! $
         -- [the run; `lent`; the token; _7; …; dies _5; …; _0; …; true]
         move ! (2 ∷ 0 ∷ []) $ use2 W (raw (Scan 𝓤 H A at-mem run .pre (callee α l₅ γ))) (goes α l₅ γ) $
-        -- [what `scan_run` asks; `lent`; _7; …; dies _5; …; _0; …; true]
+        -- [what `scan` asks; `lent`; _7; …; dies _5; …; _0; …; true]
         calls-at ! fm (Scan 𝓤 H A at-mem run) known (callee α l₅ γ) (and-then ! (held ! 2 refl) (and-then ! (held ! 11 refl) (and-then ! (held ! 9 refl) (and-then ! (held ! 7 refl) (no-more !))))) (λ w.
         use1 W (later (some (λ (r : ℕ). ((‵ (flft (α ∷ []) fullShare) ⊛ ‵ ftrue) ⊛ ‵ (usize .own r (w ∷ []))) ⊛ raw (ensured 𝓤 H A g.ended (g.clauses 𝓤 H A at-mem run) ((α ∷ []), tt) (given α l₅ γ) tt r)))) (id⊢ 𝓤 _) $ await ! tt $ pick ! (λ r.
         split ! $ move ! (1 ∷ []) $ use1 W (raw (fact 𝓤 (Answer r))) (told α l₅ γ r) $ heard ! (Answer r) (λ answer. split ! $ move ! (1 ∷ []) $ peeks ! usize (Is usize) (shows 𝓤 H A usize) r (w ∷ []) (λ is.
@@ -194,7 +194,7 @@ module _ {M : Type 1} (𝓤 : URA M) (H : Heap 𝓤) (A : Atoms 𝓤) (W : Given
         typed : Holds (hasTy recordsT mach) × WT mach
         typed = array-lawful 𝓤 H A W Record (LL.lawful T.the-type T′.the-laws 𝓤 H A W) placesPerPad .typed ys (mach ∷ []) are .0
 
-module _ {M : Type 1} (𝓤 : URA M) (H : Heap 𝓤) (A : Atoms 𝓤) (W : Given 𝓤 H A) (at-mem : Memory → SProp 𝓤) (run : Routine → Fun 𝓤) (𝓣 : Tables 𝓤 H) (known : Triple 𝓤 (𝓣 .C #repeat·scan-run) (Scan 𝓤 H A at-mem run)) where
+module _ {M : Type 1} (𝓤 : URA M) (H : Heap 𝓤) (A : Atoms 𝓤) (W : Given 𝓤 H A) (at-mem : Memory → SProp 𝓤) (run : Routine → Fun 𝓤) (𝓣 : Tables 𝓤 H) (known : Triple 𝓤 (𝓣 .C #repeat·scan) (Scan 𝓤 H A at-mem run)) where
   walks : Walks 𝓤 H A f.ended stayed (WpFn 𝓤 H (𝓣 .C) (𝓣 .Λ) code.function) (f.clauses 𝓤 H A at-mem run)
   walks = walked 𝓤 H A f.ended stayed (f.clauses 𝓤 H A at-mem run) (WpFn 𝓤 H (𝓣 .C) (𝓣 .Λ) code.function)
       (λ κs. (array-vals vals, (uint-vals w64, (uint-vals w64, (uint-vals w64, tt)))))
@@ -215,4 +215,4 @@ first-of-pad-spec 𝓤 H 𝓜 𝓖 𝓡 =
     entered 𝓤 H (tripleOf 𝓤 H (𝓖 .A) f.signature (f.spec 𝓤 H (𝓖 .A) (𝓜 .mem) (𝓡 .run)))
     (tables 𝓤 H 𝓜 𝓡 code.env .C) (tables 𝓤 H 𝓜 𝓡 code.env .Λ) #repeat·first-of-pad code.function (code.unfolded 𝓤 H 𝓜 𝓡)
     (meets 𝓤 H (𝓖 .A) (givenOf 𝓤 H 𝓜 𝓖) (𝓜 .mem) (𝓡 .run) (tablesOf 𝓤 H 𝓜 (tables 𝓤 H 𝓜 𝓡 code.env))
-    (cited 𝓤 H (Scan 𝓤 H (𝓖 .A) (𝓜 .mem) (𝓡 .run)) 𝓜 𝓡 code.env #repeat·scan-run g-def.routine code.calls-repeat·scan-run (g-thm.met 𝓤 H 𝓜 𝓖 𝓡)))
+    (cited 𝓤 H (Scan 𝓤 H (𝓖 .A) (𝓜 .mem) (𝓡 .run)) 𝓜 𝓡 code.env #repeat·scan g-def.routine code.calls-repeat·scan (g-thm.met 𝓤 H 𝓜 𝓖 𝓡)))

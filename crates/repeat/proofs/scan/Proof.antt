@@ -1,4 +1,4 @@
--- `scan_run` meets its contract: a walk of its MIR, by hand. At each turn the lent run is looked into, the record at the index is taken out of the row,
+-- `scan` meets its contract: a walk of its MIR, by hand. At each turn the lent run is looked into, the record at the index is taken out of the row,
 -- copied and put back, and `due` is asked of the copy. The loop's variable is an index before which none is due: what the records from there on give is what
 -- all of them give. All that the walk knows of `due` is that it meets its contract.
 use mathlib.Core.Path.{_≡_, refl, sym, _∙_, ap}
@@ -53,17 +53,17 @@ use Rattle.rules.specs.Hub.{pastButton}
 use Rattle.rules.proofs.ButtonData as T
 use Rattle.rules.proofs.ButtonData.Laws as T′
 use Rattle.repeat.specs.Run.{firstOf}
-use Rattle.repeat.proofs.Runs.{test, rest, hit, miss, end}
+use Rattle.repeat.proofs.Turns.{test, rest, hit, miss, end}
 use Rattle.repeat.proofs.Lent.{Record, vals, held, Fits, number}
 use Rattle.repeat.proofs.due as g
 use Rattle.repeat.proofs.due.Symbol as g-def
 use Rattle.repeat.proofs.due.Symbol.{name as #repeat·due}
 use Rattle.repeat.proofs.due.Met as g-thm
-use Rattle.repeat.proofs.scan_run.Key.{name as #repeat·scan-run}
-use Rattle.repeat.proofs.scan_run as f
-use Rattle.repeat.proofs.scan_run.Statement as stated
-use Rattle.repeat.proofs.scan_run.Code as code
-use Rattle.repeat.proofs.scan_run.Code.Mir as body
+use Rattle.repeat.proofs.scan.Key.{name as #repeat·scan}
+use Rattle.repeat.proofs.scan as f
+use Rattle.repeat.proofs.scan.Statement as stated
+use Rattle.repeat.proofs.scan.Code as code
+use Rattle.repeat.proofs.scan.Code.Mir as body
 
 -- ---- what the walk speaks of
 abbrev word : Ty
@@ -326,10 +326,10 @@ module _ {M : Type 1} (𝓤 : URA M) (H : Heap 𝓤) (A : Atoms 𝓤) (W : Given
   )
       (f.clauses 𝓤 H A at-mem run) (WpFn 𝓤 H (𝓣 .C) (𝓣 .Λ) code.function) (WpFn-mono 𝓤 H (W .laws) 𝓣 code.function) walks
 
-pub scan-run-spec : {M : Type 1} → stated.statement M
+pub scan-spec : {M : Type 1} → stated.statement M
 unfolding code.routine tablesOf
-scan-run-spec 𝓤 H 𝓜 𝓖 𝓡 =
+scan-spec 𝓤 H 𝓜 𝓖 𝓡 =
     entered 𝓤 H (tripleOf 𝓤 H (𝓖 .A) f.signature (f.spec 𝓤 H (𝓖 .A) (𝓜 .mem) (𝓡 .run)))
-    (tables 𝓤 H 𝓜 𝓡 code.env .C) (tables 𝓤 H 𝓜 𝓡 code.env .Λ) #repeat·scan-run code.function (code.unfolded 𝓤 H 𝓜 𝓡)
+    (tables 𝓤 H 𝓜 𝓡 code.env .C) (tables 𝓤 H 𝓜 𝓡 code.env .Λ) #repeat·scan code.function (code.unfolded 𝓤 H 𝓜 𝓡)
     (meets 𝓤 H (𝓖 .A) (givenOf 𝓤 H 𝓜 𝓖) (𝓜 .mem) (𝓡 .run) (tablesOf 𝓤 H 𝓜 (tables 𝓤 H 𝓜 𝓡 code.env))
     (cited 𝓤 H (Due 𝓤 H (𝓖 .A) (𝓜 .mem) (𝓡 .run)) 𝓜 𝓡 code.env #repeat·due g-def.routine code.calls-repeat·due (g-thm.met 𝓤 H 𝓜 𝓖 𝓡)))
