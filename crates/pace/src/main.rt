@@ -1,12 +1,9 @@
 // Paces the hub: plays the operations of a course again and again, so that the program's time is the time of the calls, and prints what they did.
 // `benchmark/README.md` says what a course is. The arrays of the hub are locals, lent to each call. Proved: it is safe and ends on every input.
-mod counts;
-mod course;
-mod operations;
-
-use counts::Counts;
 use libc::STDIN_FILENO;
 use libc::STDOUT_FILENO;
+use pace_operations::counts;
+use pace_operations::counts::Counts;
 ghost use mathlib.Core.Path.{_≡_};
 ghost use Prim.Native.Nat.{_≤_, _<_};
 ghost use lib.ListN.{length};
@@ -121,7 +118,7 @@ fn paced(course: &[u8], out: &mut [u8]) -> Counts {
     );
     let empty = new.head;
     let answer = new.answer;
-    let opened = course::play(
+    let opened = pace_course::play(
         empty,
         &mut codes,
         &mut kinds,
@@ -136,13 +133,13 @@ fn paced(course: &[u8], out: &mut [u8]) -> Counts {
         &mut queuecodes,
         &course[OPENED..end],
         out,
-        operations::counted(answer, counts::start(0)),
+        pace_operations::counted(answer, counts::start(0)),
     );
     let head = opened.head;
     let opening = opened.counts;
     let mut c = counts::start(opening.refusals);
     while 0 < left {
-        c = course::round(
+        c = pace_course::round(
             head,
             &codes,
             &kinds,

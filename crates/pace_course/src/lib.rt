@@ -1,14 +1,13 @@
 // A benchmark's course (`benchmark/README.md`) on a hub in place: its operations one after the other, and a round of them. The arrays are lent, and changed where
 // they stand. Proved: it is safe and ends on every input.
-use crate::counts::Counts;
-use crate::operations;
-use crate::operations::Played;
 use columns::Marks;
 use columns::QueueBytes;
 use columns::QueueCodes;
 use columns::Times;
 use columns::Values;
 use hub::Head;
+use pace_operations::Played;
+use pace_operations::counts::Counts;
 
 // an operation opens with its opcode and the payload's length in 4 bytes
 const OPERATION_HEAD: usize = 5;
@@ -38,10 +37,10 @@ pub fn play(
         let start = at + OPERATION_HEAD;
         let size = wire::read4(operations, at + 1) as usize;
         if operations.len() - start < size {
-            return operations::refused(h, c);
+            return pace_operations::refused(h, c);
         }
         let end = start + size;
-        let r = operations::operation(
+        let r = pace_operations::operation(
             h,
             codes,
             kinds,

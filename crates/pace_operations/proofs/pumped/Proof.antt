@@ -1,9 +1,9 @@
--- `operations::pumped` is safe: the out buffer is lent as far as it goes.
+-- `pace_operations::pumped` is safe: the out buffer is lent as far as it goes.
 use native.Mathlib.Omega.{arith}
 use lib.ListN.{length-take}
 use borrow.Author.Needs.{needs}
-use Rattle.pace.proofs.operations.pumped.Statement.{statement}
-use Rattle.pace.proofs.operations.pumped.Tie as tie
+use Rattle.pace_operations.proofs.pumped.Statement.{statement}
+use Rattle.pace_operations.proofs.pumped.Tie as tie
 
 refused-requires : tie.Need-refused-requires
 refused-requires c κs = tt

@@ -1,12 +1,13 @@
 // The operations of a benchmark's course (`benchmark/README.md`) on a hub in place: each lends the hub's arrays to one public call and counts what it answered.
 // Proved: each is safe and ends on every input.
-use crate::counts;
-use crate::counts::Counts;
+pub mod counts;
+
 use columns::Marks;
 use columns::QueueBytes;
 use columns::QueueCodes;
 use columns::Times;
 use columns::Values;
+use counts::Counts;
 use hub::AnsweredHead;
 use hub::Head;
 use rules::Answer;

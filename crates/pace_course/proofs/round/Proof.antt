@@ -1,7 +1,7 @@
--- `course::round` is safe: what it plays asks nothing.
+-- `pace_course::round` is safe: what it plays asks nothing.
 use borrow.Author.Needs.{needs}
-use Rattle.pace.proofs.course.round.Statement.{statement}
-use Rattle.pace.proofs.course.round.Tie as tie
+use Rattle.pace_course.proofs.round.Statement.{statement}
+use Rattle.pace_course.proofs.round.Tie as tie
 
 play-requires : tie.Need-play-requires
 play-requires c κs = tt

@@ -1,11 +1,11 @@
--- `course::play` is safe and ends: each operation leaves fewer bytes.
+-- `pace_course::play` is safe and ends: each operation leaves fewer bytes.
 use Prim.Native.Nat.{_≤_, _-_}
 use native.Mathlib.Omega.{arith}
 use mathlib.Core.Path.{_≡_}
 use lib.ListN.{length}
 use borrow.Author.Needs.{needs}
-use Rattle.pace.proofs.course.play.Statement.{statement}
-use Rattle.pace.proofs.course.play.Tie as tie
+use Rattle.pace_course.proofs.play.Statement.{statement}
+use Rattle.pace_course.proofs.play.Tie as tie
 
 abbrev Inv-loop : tie.InvT-loop
 Inv-loop codes₀ kinds₀ names₀ renames hasbutton₀ hasaxis₀ values₀ times₀ marks₀ queuebytes₀ queuecodes₀ operations out₀ h₀ c₀ at₀

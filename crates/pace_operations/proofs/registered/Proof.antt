@@ -1,7 +1,7 @@
--- `operations::registered` is safe: the call asks nothing.
+-- `pace_operations::registered` is safe: the call asks nothing.
 use borrow.Author.Needs.{needs}
-use Rattle.pace.proofs.operations.registered.Statement.{statement}
-use Rattle.pace.proofs.operations.registered.Tie as tie
+use Rattle.pace_operations.proofs.registered.Statement.{statement}
+use Rattle.pace_operations.proofs.registered.Tie as tie
 
 register-requires : tie.Need-register-requires
 register-requires c κs = tt

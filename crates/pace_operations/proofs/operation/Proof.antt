@@ -1,7 +1,7 @@
--- `operations::operation` is safe: it asks nothing of the calls and promises nothing.
+-- `pace_operations::operation` is safe: it asks nothing of the calls and promises nothing.
 use borrow.Author.Needs.{needs}
-use Rattle.pace.proofs.operations.operation.Statement.{statement}
-use Rattle.pace.proofs.operations.operation.Tie as tie
+use Rattle.pace_operations.proofs.operation.Statement.{statement}
+use Rattle.pace_operations.proofs.operation.Tie as tie
 
 pumped-requires : tie.Need-pumped-requires
 pumped-requires c κs = tt
@@ -49,4 +49,21 @@ returns-6 : tie.Need-returns-6
 returns-6 c = tt
 
 pub operation-spec : {M : Type 1} → statement M
-operation-spec = tie.close (tie.spec pumped-requires same-length returns asked-requires returns-2 registered-requires returns-3 update-requires counted-requires returns-4 insert-event-requires answered-requires returns-5 refused-requires returns-6)
+operation-spec =
+    tie.close
+    (tie.spec
+    pumped-requires
+    same-length
+    returns
+    asked-requires
+    returns-2
+    registered-requires
+    returns-3
+    update-requires
+    counted-requires
+    returns-4
+    insert-event-requires
+    answered-requires
+    returns-5
+    refused-requires
+    returns-6)
