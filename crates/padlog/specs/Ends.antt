@@ -26,7 +26,7 @@ use Rattle.theory_calls.specs.Machines.{placeSaid, eventsSaid, stepsSaid}
 use Rattle.theory_calls.specs.Room.{pump-stays}
 use Rattle.theory_history.specs.Rule.{recordsFrom}
 use Rattle.theory_history.specs.Played.{Played, fresh, register}
-use Rattle.theory_history.specs.Handed.{Still, none-still, register-still}
+use Rattle.theory_history.specs.Lemmas.Handed.{Still, none-still, register-still}
 use Rattle.theory_history.specs.Pumps.{mostHanded, pump-counts}
 use Rattle.lines.specs.Text.{linesOf, drainedLine, stoppedLine, sheetLine}
 use Rattle.padlog.specs.declared.Tally.{Tally}

@@ -24,7 +24,7 @@ use Rattle.theory_registered.specs.Directions.{direction-found}
 use Rattle.theory_registered.specs.Listing.{Of, row-of, row-name}
 use Rattle.theory_registered.specs.Pads.{Desk, Kept}
 use Rattle.theory_history.specs.Rule.{isDirection}
-use Rattle.theory_history.specs.Truth.{false-true, true-false}
+use Rattle.theory_history.specs.Lemmas.Truth.{false-true, true-false}
 use Rattle.theory_demand3.specs.Demand3.{Sheet, elementsFrom, sheetRead, Lookup, listed, unlisted, lookup, lookupName, speaksOfHats, converts}
 use Rattle.theory_demand3.specs.Listed.{lookup-among, name-kept}
 

@@ -17,7 +17,7 @@ use Rattle.rules.specs.Pump.{pumpOf}
 use Rattle.theory_calls.specs.Machines.{said, placeSaid, stepsSaid}
 use Rattle.theory_history.specs.Rule.{recordsFrom}
 use Rattle.theory_history.specs.Played.{reached}
-use Rattle.theory_history.specs.Handed.{Still, none-still, register-still, inc-still, reset-still, update-still}
+use Rattle.theory_history.specs.Lemmas.Handed.{Still, none-still, register-still, inc-still, reset-still, update-still}
 use Rattle.theory_history.specs.Pumps.{mostHanded, pump-counts}
 use Rattle.theory_demand3.specs.Demand3.{Call, register, pump, inc, reset, repeat, Script, _then_, goesOn, Allowed, fedBack, play, recordsOf, eventsOf}
 use Rattle.theory_demand3.specs.Scripts.{script-played}

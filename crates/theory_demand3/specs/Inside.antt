@@ -11,7 +11,7 @@ use Rattle.rules.specs.Forms.{recordSize}
 use Rattle.rules.specs.Pump.{Run, pumpOf}
 use Rattle.theory_calls.specs.Machines.{said, placeSaid, eventsSaid}
 use Rattle.theory_calls.specs.Parts.{unwritten, pump-parts}
-use Rattle.theory_history.specs.Handed.{Still, none-still}
+use Rattle.theory_history.specs.Lemmas.Handed.{Still, none-still}
 use Rattle.theory_history.specs.Pumps.{mostHanded, pump-took, pump-counts}
 use Rattle.theory_demand3.specs.Demand3.{Call, pump, Script, _then_, goesOn, Allowed, play, recordsOf, eventsOf}
 use Rattle.theory_demand3.specs.Scripts.{script-played}

@@ -26,12 +26,12 @@ use Rattle.theory_registered.specs.Directions.{direction-found}
 use Rattle.theory_registered.specs.Unlisted.{not-found}
 use Rattle.theory_registered.specs.Pads.{Desk, Kept, reached-desk}
 use Rattle.theory_history.specs.Rule.{Reading, Reads, nothing, held, isDirection, buttonReads, triggerReads, hatValue}
-use Rattle.theory_history.specs.Steps.{Ready}
+use Rattle.theory_history.specs.Lemmas.Steps.{Ready}
 use Rattle.theory_history.specs.Played.{Played, reached, ready}
 use Rattle.theory_history.specs.Demand as demand
 use Rattle.theory_history.specs.Demand.{asked-pressed, asked-value, standing-truth, standing-value}
 use Rattle.theory_history.specs.Directions.{positive, negative, opposites-read}
-use Rattle.theory_history.specs.Truth.{false-true, true-false}
+use Rattle.theory_history.specs.Lemmas.Truth.{false-true, true-false}
 use Rattle.theory_demand3.specs.Demand3.{Settings, Sheet, sheetRead, elementsFrom, Lookup, listed, unlisted, lookup, lookupName, lookupElement, converts, says, silent, lastHat, directionReads, elementReads, readsBy, ruleReads, Opposite, right-left, up-down}
 use Rattle.theory_demand3.specs.Scripts.{Set}
 use Rattle.theory_demand3.specs.Listed.{Holds, lookup-none, listed-holds, unlisted-bare, name-kept, element-kept}

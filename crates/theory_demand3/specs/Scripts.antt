@@ -29,10 +29,10 @@ use Rattle.theory_history.specs.Rule.{recordsFrom}
 use Rattle.theory_history.specs.Played as played
 use Rattle.theory_history.specs.Played.{Played, reached}
 use Rattle.theory_history.specs.Pumps.{Took, pump-took}
-use Rattle.theory_history.specs.Small.{Small, new-small, register-small, pump-small, update-small, counted-small}
+use Rattle.theory_history.specs.Lemmas.Small.{Small, new-small, register-small, pump-small, update-small, counted-small}
 use Rattle.theory_history.specs.Repeated.{repeats}
-use Rattle.theory_history.specs.Sorts.{Same, step-same, counted-same}
-use Rattle.theory_history.specs.Kept.{form-same}
+use Rattle.theory_history.specs.Lemmas.Sorts.{Same, step-same, counted-same}
+use Rattle.theory_history.specs.Lemmas.Kept.{form-same}
 use Rattle.theory_demand3.specs.Demand3.{Settings, register, pump, inc, reset, repeat, Script, new, _then_, Allowed, fedBack, play, settingsOf, takenBy, recordsOf, Sheet, sheetRead, acceptedBy, sheetsOf, noSheet}
 
 -- ---- records

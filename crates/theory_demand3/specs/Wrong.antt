@@ -22,7 +22,7 @@ use Rattle.rules.specs.Calls.{newOf, registerOf}
 use Rattle.rules.specs.Queries.{pressedByCode}
 use Rattle.theory_calls.specs.Machines.{Machine, sheet, move, said, eventsSaid, stepsSaid}
 use Rattle.theory_history.specs.Rule.{byteLimit, Bytes, recordsFrom, Reading, held}
-use Rattle.theory_history.specs.Truth.{true-false}
+use Rattle.theory_history.specs.Lemmas.Truth.{true-false}
 use Rattle.theory_demand3.specs.Demand3.{Script, Allowed, play, settingsOf, recordsOf, sheetRead, sheetsOf, noSheet, says, ruleReads, Demand3}
 use Rattle.theory_demand3.specs.Example.{padlog, pushed, example, hasaxis, rule-right, rule-pushed}
 

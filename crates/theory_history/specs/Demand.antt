@@ -24,17 +24,17 @@ use Rattle.theory_calls.specs.Waiting.{waitingList}
 use Rattle.theory_registered.specs.Pads.{Desk, reached-desk, direction-kept}
 use Rattle.theory_arithmetic.specs.Proper.{Proper, proper-eq}
 use Rattle.theory_history.specs.Rule.{Reading, Reads, isDirection, buttonReads, triggerReads, nothing}
-use Rattle.theory_history.specs.Cells.{cellAt, cellPressed, cellValue}
-use Rattle.theory_history.specs.Waits.{Sheet, sheetOf, axialAt, takes}
-use Rattle.theory_history.specs.Served.{due}
-use Rattle.theory_history.specs.Serve.{Tells}
-use Rattle.theory_history.specs.Records.{Place, none-waits}
+use Rattle.theory_history.specs.Lemmas.Cells.{cellAt, cellPressed, cellValue}
+use Rattle.theory_history.specs.Lemmas.Waits.{Sheet, sheetOf, axialAt, takes}
+use Rattle.theory_history.specs.Lemmas.Served.{due}
+use Rattle.theory_history.specs.Lemmas.Serve.{Tells}
+use Rattle.theory_history.specs.Lemmas.Records.{Place, none-waits}
 use Rattle.theory_history.specs.Played.{Played, reached}
-use Rattle.theory_history.specs.Register.{listed-found}
-use Rattle.theory_history.specs.Sorts.{button, trigger, Is, silent}
-use Rattle.theory_history.specs.Codes.{tells}
-use Rattle.theory_history.specs.Truth.{false-true, true-false}
-use Rattle.theory_history.specs.Partner.{unlisted-name}
+use Rattle.theory_history.specs.Lemmas.Register.{listed-found}
+use Rattle.theory_history.specs.Lemmas.Sorts.{button, trigger, Is, silent}
+use Rattle.theory_history.specs.Lemmas.Codes.{tells}
+use Rattle.theory_history.specs.Lemmas.Truth.{false-true, true-false}
+use Rattle.theory_history.specs.Lemmas.Partner.{unlisted-name}
 
 -- ---- directions
 

@@ -22,16 +22,16 @@ use Rattle.rules.specs.Queries.{pressedByCode}
 use Rattle.theory_calls.specs.Waiting.{waitingList}
 use Rattle.theory_registered.specs.Pads.{reached-desk, direction-kept}
 use Rattle.theory_history.specs.Rule.{Reads, held, hatValue, directionCode, pressingValue}
-use Rattle.theory_history.specs.Cells.{cellAt, cellPressed}
-use Rattle.theory_history.specs.Waits.{sheetOf, axialAt, takes}
-use Rattle.theory_history.specs.Partner.{unlisted-name}
-use Rattle.theory_history.specs.Records.{none-waits}
+use Rattle.theory_history.specs.Lemmas.Cells.{cellAt, cellPressed}
+use Rattle.theory_history.specs.Lemmas.Waits.{sheetOf, axialAt, takes}
+use Rattle.theory_history.specs.Lemmas.Partner.{unlisted-name}
+use Rattle.theory_history.specs.Lemmas.Records.{none-waits}
 use Rattle.theory_history.specs.Played.{Played, reached}
-use Rattle.theory_history.specs.Written.{writes, never-now}
-use Rattle.theory_history.specs.Sides.{Shows, Side}
-use Rattle.theory_history.specs.Hats.{Unlisted}
-use Rattle.theory_history.specs.Dpad.{sides}
-use Rattle.theory_history.specs.Opposites.{opposed}
+use Rattle.theory_history.specs.Lemmas.Written.{writes, never-now}
+use Rattle.theory_history.specs.Lemmas.Sides.{Shows, Side}
+use Rattle.theory_history.specs.Lemmas.Hats.{Unlisted}
+use Rattle.theory_history.specs.Lemmas.Dpad.{sides}
+use Rattle.theory_history.specs.Lemmas.Opposites.{opposed}
 use Rattle.theory_history.specs.Demand.{asked-pressed, asked-value, standing-truth, standing-value, cell-pressed, cell-value}
 
 module _ {h : Hub} {rs : List RawRecord} (w : Played h rs) (p n : ℕ) (old : p < h .pads) (converts : getD (h .converts) p false ≡ true)

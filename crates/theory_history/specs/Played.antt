@@ -24,8 +24,8 @@ use Rattle.rules.specs.Step.{updatedOf, updatedAt, recordKind, stepHub}
 use Rattle.rules.specs.Calls.{freshHub, newBy, newOf, registerRefusal, registeredAt, registerBy, registerOf, formPlace, updateFormBy, updateBy, updateOf, countedAt, incOf, resetOf}
 use Rattle.theory_calls.specs.Reach as reach
 use Rattle.theory_calls.specs.Reach.{Reached}
-use Rattle.theory_history.specs.Marks.{all-same, cleared-length}
-use Rattle.theory_history.specs.Steps.{Ready, set-down, step-ready, look, lookAt}
+use Rattle.theory_history.specs.Lemmas.Marks.{all-same, cleared-length}
+use Rattle.theory_history.specs.Lemmas.Steps.{Ready, set-down, step-ready, look, lookAt}
 
 -- a held button's repeat, as bytes
 pub record Repeats (h : Hub) (bytes : List ℕ) : Type 0 where

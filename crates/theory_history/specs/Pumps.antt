@@ -23,9 +23,9 @@ use Rattle.theory_calls.specs.Room.{accepted-fits}
 use Rattle.theory_calls.specs.Waiting.{waitingList}
 use Rattle.theory_history.specs.Rule.{recordsFrom}
 use Rattle.theory_history.specs.Played.{Played, take, serve}
-use Rattle.theory_history.specs.Tails.{Less}
-use Rattle.theory_history.specs.Brings.{Few}
-use Rattle.theory_history.specs.Handed.{Still, none-still, take-few, serve-less, still}
+use Rattle.theory_history.specs.Lemmas.Tails.{Less}
+use Rattle.theory_history.specs.Lemmas.Brings.{Few}
+use Rattle.theory_history.specs.Lemmas.Handed.{Still, none-still, take-few, serve-less, still}
 
 -- ---- a step
 

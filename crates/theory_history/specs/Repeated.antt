@@ -24,11 +24,11 @@ use Rattle.rules.specs.State.{readPressed}
 use Rattle.rules.specs.Hub.{placeIn, nameIn, pressedAt, pastButton}
 use Rattle.rules.specs.Repeat.{waitOf, dueOf, firstDue, repeatedOf, repeatedAt, duePlace, repeatBy, repeatOf}
 use Rattle.wire.specs.Laws.{InLimits, event-read-back, event-of-form}
-use Rattle.theory_history.specs.Truth.{false-true}
-use Rattle.theory_history.specs.Accepted.{first-zero, fits-zero}
+use Rattle.theory_history.specs.Lemmas.Truth.{false-true}
+use Rattle.theory_history.specs.Lemmas.Accepted.{first-zero, fits-zero}
 use Rattle.theory_history.specs.Played.{Played, Repeats}
-use Rattle.theory_history.specs.Touched.{found}
-use Rattle.theory_history.specs.Small.{Small}
+use Rattle.theory_history.specs.Lemmas.Touched.{found}
+use Rattle.theory_history.specs.Lemmas.Small.{Small}
 
 -- ---- what an answer says
 
