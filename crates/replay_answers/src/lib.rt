@@ -1,6 +1,6 @@
-// What the operations of the oracle's scenario form (`oracle/README.md`) answer, and the lines that say so. Each function appends to a
-// buffer at a place and answers the next place; where the buffer has no room it writes nothing there, as `lines` does. Proved: every function is safe and ends
-// for every input. What the lines say is not stated; they are compared with the oracle's.
+// What the operations of the oracle's scenario form (`oracle/README.md`) answer, and the lines that say so. Each function appends to a buffer at a place and
+// answers the next place; where the buffer has no room it writes nothing there, as `lines` does. Proved: every function is safe and ends for every input. What
+// the lines say is not stated; they are compared with the oracle's.
 use hub::Head;
 use lines::NEWLINE;
 use lines::SPACE;
@@ -134,22 +134,30 @@ fn stopped(text: &mut [u8], at: usize, place: usize, count: usize, steps: usize)
 }
 
 // Each event of the out buffer, then how the pump ended.
+fn ended(
+    text: &mut [u8],
+    at: usize,
+    out: &[u8],
+    word: &[u8],
+    place: usize,
+    count: usize,
+    steps: usize,
+) -> usize {
+    let last = lines::lines(text, at, out, count);
+    let next = lines::append(text, last, word);
+    stopped(text, next, place, count, steps)
+}
+
 fn pumped(text: &mut [u8], at: usize, out: &[u8], answer: PumpAnswer) -> usize {
     match answer {
         PumpAnswer::Drained(place, count, steps) => {
-            let last = lines::lines(text, at, out, count);
-            let next = lines::append(text, last, b"DRAINED ");
-            stopped(text, next, place, count, steps)
+            ended(text, at, out, b"DRAINED ", place, count, steps)
         }
         PumpAnswer::Full(place, count, steps) => {
-            let last = lines::lines(text, at, out, count);
-            let next = lines::append(text, last, b"FULL ");
-            stopped(text, next, place, count, steps)
+            ended(text, at, out, b"FULL ", place, count, steps)
         }
         PumpAnswer::Paused(place, count, steps) => {
-            let last = lines::lines(text, at, out, count);
-            let next = lines::append(text, last, b"PAUSED ");
-            stopped(text, next, place, count, steps)
+            ended(text, at, out, b"PAUSED ", place, count, steps)
         }
         PumpAnswer::Refused(number, place, count, steps) => {
             let last = lines::lines(text, at, out, count);
