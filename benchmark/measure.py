@@ -18,7 +18,7 @@ COUNTED_WAITING_ROUNDS = 100
 SMALL = 1_000  # bare calls, or queries, of a course
 TAKEN = (0, 12, 24, 36, 48)  # steps that take one of 48 waiting events
 PUSHED = (0, 4, 8, 12, 16)  # steps that turn one of 16 waiting hat events
-BARE, ASKING = f'bare-{SMALL}', f'asking-{SMALL}'
+BARE, ASKING, CUT = f'bare-{SMALL}', f'asking-{SMALL}', f'cut-{SMALL}'
 COMPARED = {'stream': 1, 'singly': 100, BARE: SMALL, ASKING: 1}  # each so many calls of these courses are compared
 LARGE = 256  # bytes; what the hub copies for a call is less
 
@@ -110,6 +110,7 @@ def tell_instructions(counts):
         # the batch that the calls come behind is taken by the same part of gilrs
         before = counting.gilrs('bare-0', part) if other is not None else 0
         row(what, one(other and other - before), [counting.hub(name) - few], SMALL, 1)
+    row('of it, reading the operation: instructions', None, [counting.hub(CUT) - few], SMALL, 1)
 
 
 def tell_copies(counts):

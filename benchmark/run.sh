@@ -20,6 +20,7 @@ rustc --edition 2021 -O --crate-name crate_pace -o "$folder/crate_pace" \
 "$folder/crate_pace" singly "$seed" >"$folder/singly"
 for calls in 0 1000; do "$folder/crate_pace" bare "$calls" >"$folder/bare-$calls"; done
 "$folder/crate_pace" asking 1000 >"$folder/asking-1000"
+"$folder/crate_pace" cut 1000 >"$folder/cut-1000"
 for steps in 0 12 24 36 48; do "$folder/crate_pace" taking "$steps" >"$folder/taking-$steps"; done
 for steps in 0 4 8 12 16; do "$folder/crate_pace" pushing "$steps" >"$folder/pushing-$steps"; done
 # the stored test of pace: three rounds that take 12 of the 48 waiting events

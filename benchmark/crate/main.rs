@@ -3,6 +3,7 @@
 //!     crate_pace singly SEED       writes the course of one record a call, with a query after each
 //!     crate_pace bare CALLS        writes the course of a batch and so many calls that find nothing
 //!     crate_pace asking QUERIES    writes the course of a batch and so many queries
+//!     crate_pace cut QUERIES       writes the same with queries that are cut short
 //!     crate_pace taking STEPS      writes the course that takes STEPS events while up to 48 wait
 //!     crate_pace pushing STEPS     writes the course that converts STEPS hat events while 16 and more wait
 //!     crate_pace pace < COURSE     paces gilrs over one of the first four, behind its 4 bytes of rounds
@@ -37,6 +38,7 @@ fn main() {
         ["singly", seed] => io::stdout().write_all(&single::singly(number(seed))),
         ["bare", calls] => io::stdout().write_all(&single::bare(number(calls))),
         ["asking", queries] => io::stdout().write_all(&single::asking(number(queries))),
+        ["cut", queries] => io::stdout().write_all(&single::cut(number(queries))),
         ["taking", steps] => io::stdout().write_all(&waiting::taking(number(steps))),
         ["pushing", steps] => io::stdout().write_all(&waiting::pushing(number(steps))),
         ["pace"] => {
@@ -44,7 +46,7 @@ fn main() {
             io::stdin().read_to_end(&mut course).map(|_| pace::pace(&course))
         }
         _ => {
-            eprintln!("crate_pace stream SEED | singly SEED | bare CALLS | asking QUERIES | taking STEPS | pushing STEPS | pace");
+            eprintln!("crate_pace stream SEED | singly SEED | bare CALLS | asking QUERIES | cut QUERIES | taking STEPS | pushing STEPS | pace");
             exit(2)
         }
     };
