@@ -26,6 +26,7 @@ const PADS: usize = 4;
 
 // ---- the counter: "The counter goes from 2^62-1 to 0"
 
+// The hub with its counter one up: gilrs's `Gilrs::inc`.
 pub fn inc(head: Head) -> Head
     ensures { λ r. ⌜ ((s : Listed) (t : Columns) → hubOf r s t ≡ incOf (hubOf head s t)) ⌝ }
 {
@@ -34,12 +35,14 @@ pub fn inc(head: Head) -> Head
     h
 }
 
+// The counter: gilrs's `Gilrs::counter`.
 pub fn counter(head: Head) -> u64
     ensures { λ r. ⌜ ((s : Listed) (t : Columns) → r ≡ hubOf head s t .counter) ⌝ }
 {
     head.counter
 }
 
+// The hub with its counter at 0: gilrs's `Gilrs::reset_counter`.
 pub fn reset_counter(head: Head) -> Head
     ensures { λ r. ⌜ ((s : Listed) (t : Columns) → hubOf r s t ≡ resetOf (hubOf head s t)) ⌝ }
 {

@@ -16,6 +16,7 @@ pub struct Counts {
     pub last: usize,
 }
 
+// Nothing counted yet but refusals.
 pub fn start(refusals: u64) -> Counts {
     Counts {
         calls: 0,
@@ -33,6 +34,7 @@ fn sum(a: u64, b: u64) -> u64 {
     std::num::wrapping_add_u64(a, b)
 }
 
+// One call more that was refused.
 pub fn refused(c: Counts) -> Counts {
     let mut d = c;
     d.refusals = sum(c.refusals, 1);
@@ -94,6 +96,7 @@ fn told_one(label: &[u8], n: u64) {
     io::write_all(STDOUT_FILENO, b"\n");
 }
 
+// Prints the counts, one a line.
 pub fn told(c: Counts) {
     told_one(b"CALLS ", c.calls);
     told_one(b"DRAINED ", c.drained);

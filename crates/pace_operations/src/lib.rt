@@ -43,6 +43,7 @@ fn least(a: usize, b: usize) -> usize
 
 // ---- counted
 
+// The counts after a call that answers Done or a refusal.
 pub fn counted(answer: Answer, c: Counts) -> Counts {
     match answer {
         Answer::Done => c,
@@ -59,6 +60,7 @@ fn answered(r: AnsweredHead, c: Counts) -> Played {
     }
 }
 
+// An operation that is not played: the head as it was, and one refusal more.
 pub fn refused(head: Head, c: Counts) -> Played {
     Played {
         head,

@@ -38,6 +38,9 @@ fn stepped(
     h
 }
 
+// Takes records from a batch, and waiting events before them, one a step; sends each through the filters, keeps the state, and writes what is handed out as
+// bytes. It stops Drained, Full or Paused, or at a record that is refused, with the place in the batch, the events written and the steps made. Refuses 14
+// and 8 for the whole call, and a record by 8, 6, 9, 10, 11, 12.
 pub fn pump<'s>(
     head: Head,
     codes: &'s [u32; 208],

@@ -53,6 +53,7 @@ pub struct Told {
     pub answer: Changed,
 }
 
+// The head after an operation, with its answer.
 pub fn tell(head: Head, answer: Changed) -> Told
     ensures { λ r. ⌜ (r .head ≡ head) × (r .answer ≡ answer) ⌝ }
 {
@@ -92,6 +93,7 @@ fn bits(text: &mut [u8], at: usize, label: &[u8], v: f32, end: u8) -> usize {
 
 // ---- records
 
+// A button record's words behind a label: value, pressed, repeating, counter, stamp.
 pub fn button_words(text: &mut [u8], at: usize, label: &[u8], b: ButtonData) -> usize {
     let pressed = bits(text, at, label, b.value, SPACE);
     let repeating = lines::number(text, pressed, bit(b.pressed), SPACE);
@@ -100,6 +102,7 @@ pub fn button_words(text: &mut [u8], at: usize, label: &[u8], b: ButtonData) -> 
     lines::number(text, stamp, b.stamp, NEWLINE)
 }
 
+// An axis record's words behind a label: value, counter, stamp.
 pub fn axis_words(text: &mut [u8], at: usize, label: &[u8], a: AxisData) -> usize {
     let counter = bits(text, at, label, a.value, SPACE);
     let stamp = lines::number(text, counter, a.counter, SPACE);
@@ -230,6 +233,7 @@ fn code(text: &mut [u8], at: usize, answer: NumberAnswer) -> usize {
 
 // ---- the lines of any operation
 
+// The line of an operation that leaves the hub as it is.
 pub fn query_line(text: &mut [u8], at: usize, answer: Asked) -> usize {
     match answer {
         Asked::Pressed(a) => is(text, at, b"IS ", a),

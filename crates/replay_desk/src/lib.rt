@@ -118,10 +118,12 @@ fn rename<'s>(
 
 // ---- any operation that sets a desk up
 
+// Whether an opcode is new, register or rename.
 pub fn sets_up(opcode: u8) -> bool {
     opcode == NEW || opcode == REGISTER || opcode == RENAME
 }
 
+// Plays one of them.
 pub fn set_up(
     head: Head,
     codes: &mut [u32; 208],

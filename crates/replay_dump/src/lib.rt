@@ -158,6 +158,7 @@ fn last(text: &mut [u8], at: usize, counter: u64, waiting: u8) -> usize {
     lines::number(text, end, waiting as u64, NEWLINE)
 }
 
+// The lines of all that the pads' state holds.
 pub fn dump(
     head: Head,
     codes: &[u32; 208],

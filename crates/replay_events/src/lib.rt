@@ -115,6 +115,7 @@ fn count(head: Head, opcode: u8) -> Told {
 
 // ---- any operation that sends events or counts
 
+// Whether an opcode is a pump, an update, an insert, or a change of the counter.
 pub fn sends(opcode: u8) -> bool {
     opcode == PUMP
         || opcode == UPDATE
@@ -123,6 +124,7 @@ pub fn sends(opcode: u8) -> bool {
         || opcode == RESET_COUNTER
 }
 
+// Plays one of them.
 pub fn send<'s>(
     head: Head,
     codes: &'s [u32; 208],
