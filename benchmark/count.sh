@@ -13,9 +13,9 @@ if [ -z "$emulator" ] || ! "$emulator" -h | grep -q -- -plugin || ! command -v c
   exit 3
 fi
 tools=$(dirname "$(dirname "$(rt doc)")")/on/$(uname -m)/toolchain
-mkdir -p "$folder/root/lib64"
-ln -sf "$tools/lib/ld-linux-x86-64.so.2" "$folder/root/lib64/"
+mkdir -p "$folder/loader/lib64"
+ln -sf "$tools/lib/ld-linux-x86-64.so.2" "$folder/loader/lib64/"
 [ "$folder/count.so" -nt "$benchmark/count.c" ] || cc -shared -fPIC -O2 -Wall -o "$folder/count.so" "$benchmark/count.c"
 # the program is loaded where the emulator likes: count.c learns from where its code starts in the file by how much it was moved
 start=$(readelf -lW "$program" | awk '$1 == "LOAD" && / E / { print $3; exit }')
-exec "$emulator" -L "$folder/root" -E "LD_LIBRARY_PATH=$tools/lib" -plugin "$folder/count.so,start=$start$(printf ',at=%s' "$@")" "$program"
+exec "$emulator" -L "$folder/loader" -E "LD_LIBRARY_PATH=$tools/lib" -plugin "$folder/count.so,start=$start$(printf ',at=%s' "$@")" "$program"
