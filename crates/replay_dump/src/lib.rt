@@ -33,7 +33,7 @@ fn button(text: &mut [u8], at: usize, known: bool, code: u32, b: ButtonData) -> 
     }
     let next = lines::append(text, at, b"B ");
     let words = lines::hex(text, next, code, SPACE);
-    replay_answers::button_words(text, words, b"", b)
+    replay_words::button_words(text, words, b"", b)
 }
 
 fn stick(text: &mut [u8], at: usize, known: bool, code: u32, a: AxisData) -> usize {
@@ -42,7 +42,7 @@ fn stick(text: &mut [u8], at: usize, known: bool, code: u32, a: AxisData) -> usi
     }
     let next = lines::append(text, at, b"A ");
     let words = lines::hex(text, next, code, SPACE);
-    replay_answers::axis_words(text, words, b"", a)
+    replay_words::axis_words(text, words, b"", a)
 }
 
 // A pad's button records, codes rising.

@@ -102,7 +102,7 @@ fn begun(answer: Changed) -> bool {
 pub fn after(told: Told, opcode: u8, out: &[u8], text: &mut [u8], at: usize) -> Game {
     let head = told.head;
     let answer = told.answer;
-    let next = replay_answers::call_lines(text, at, out, answer);
+    let next = replay_lines::call_lines(text, at, out, answer);
     Game {
         stands: opcode != NEW || begun(answer),
         head,
@@ -162,6 +162,6 @@ pub fn query<'s>(
         opcode,
         payload,
     );
-    next.at = replay_answers::query_line(text, g.at, answer);
+    next.at = replay_lines::query_line(text, g.at, answer);
     next
 }
