@@ -4,16 +4,24 @@ use lines::NEWLINE;
 use lines::SPACE;
 use rules::AxisData;
 use rules::ButtonData;
+ghost use mathlib.Core.Path.{_≡_};
+ghost use Rattle.rules.specs.Answers.{bit as bitOf};
+ghost use Rattle.replay_words.specs.Pieces.{written, laidAll};
+ghost use Rattle.replay_words.specs.Words.{valuePieces, buttonPieces, axisPieces};
 
 // ---- words
 
 // A mark as a digit's number.
-pub fn bit(b: bool) -> u64 {
+pub fn bit(b: bool) -> u64
+    ensures { λ r. ⌜ r ≡ bitOf b ⌝ }
+{
     if b { 1 } else { 0 }
 }
 
 // A value behind a label, as eight hex digits.
-pub fn bits(text: &mut [u8], at: usize, label: &[u8], v: f32, end: u8) -> usize {
+pub fn bits(text: &mut [u8], at: usize, label: &[u8], v: f32, end: u8) -> usize
+    ensures { λ r. ⌜ written (now (text .exit)) r ≡ laidAll (valuePieces (now (label .entry)) v end) (written (now (text .entry)) at) ⌝ }
+{
     let next = lines::append(text, at, label);
     lines::hex(text, next, binary32::bits_of(v), end)
 }
@@ -21,7 +29,9 @@ pub fn bits(text: &mut [u8], at: usize, label: &[u8], v: f32, end: u8) -> usize 
 // ---- records
 
 // A button record's words behind a label: value, pressed, repeating, counter, stamp.
-pub fn button_words(text: &mut [u8], at: usize, label: &[u8], b: ButtonData) -> usize {
+pub fn button_words(text: &mut [u8], at: usize, label: &[u8], b: ButtonData) -> usize
+    ensures { λ r. ⌜ written (now (text .exit)) r ≡ laidAll (buttonPieces (now (label .entry)) b) (written (now (text .entry)) at) ⌝ }
+{
     let pressed = bits(text, at, label, b.value, SPACE);
     let repeating = lines::number(text, pressed, bit(b.pressed), SPACE);
     let counter = lines::number(text, repeating, bit(b.repeating), SPACE);
@@ -30,7 +40,9 @@ pub fn button_words(text: &mut [u8], at: usize, label: &[u8], b: ButtonData) -> 
 }
 
 // An axis record's words behind a label: value, counter, stamp.
-pub fn axis_words(text: &mut [u8], at: usize, label: &[u8], a: AxisData) -> usize {
+pub fn axis_words(text: &mut [u8], at: usize, label: &[u8], a: AxisData) -> usize
+    ensures { λ r. ⌜ written (now (text .exit)) r ≡ laidAll (axisPieces (now (label .entry)) a) (written (now (text .entry)) at) ⌝ }
+{
     let counter = bits(text, at, label, a.value, SPACE);
     let stamp = lines::number(text, counter, a.counter, SPACE);
     lines::number(text, stamp, a.stamp, NEWLINE)

@@ -1,0 +1,57 @@
+-- `replay_words::button_words` meets its contract: a piece for each word.
+use Rattle.replay_words.specs.Words.{valuePieces, buttonPieces}
+use Rattle.replay_words.proofs.Laws.{then}
+use borrow.Author.Needs.{needs}
+use Rattle.replay_words.proofs.button_words.Statement.{statement}
+use Rattle.replay_words.proofs.button_words.Tie as tie
+use Rattle.replay_words.proofs.button_words.Reads as reads
+use Rattle.replay_words.proofs.button_words.Lts as lts
+use Rattle.lines.proofs.number.Reads as number-reads
+use Rattle.replay_words.proofs.bit.Reads as bit-reads
+use Rattle.replay_words.proofs.bits.Reads as bits-reads
+
+bits-requires : tie.Need-bits-requires
+bits-requires c κs = search needs
+
+bit-requires : tie.Need-bit-requires
+bit-requires c κs = search needs
+
+number-requires : tie.Need-number-requires
+number-requires c κs = search needs
+
+bit-requires-2 : tie.Need-bit-requires-2
+bit-requires-2 c κs = search needs
+
+number-requires-2 : tie.Need-number-requires-2
+number-requires-2 c κs = search needs
+
+number-requires-3 : tie.Need-number-requires-3
+number-requires-3 c κs = search needs
+
+number-requires-4 : tie.Need-number-requires-4
+number-requires-4 c κs = search needs
+
+same-length : tie.Need-same-length
+same-length c = search needs
+
+returns : tie.Need-returns
+unfolding valuePieces buttonPieces
+returns c =
+    let one = then _ _ _ _ _ _ _ _ (c .before .before .before .before .before .before .before .before .before .before .before .before .before .before .before .before .before .before .before .before .bits .ensures) (c .before .before .before .before .before .before .before .before .before .before .before .before .before .before .before .number .ensures) in
+    let two = then _ _ _ _ _ _ _ _ one (c .before .before .before .before .before .before .before .before .before .before .number2 .ensures) in
+    let three = then _ _ _ _ _ _ _ _ two (c .before .before .before .before .before .before .number3 .ensures) in
+    rw (← c .before .before .before .before .before .before .before .before .before .before .before .before .before .before .before .before .bit .ensures, ← c .before .before .before .before .before .before .before .before .before .before .before .bit2 .ensures) (then _ _ _ _ _ _ _ _ three (c .before .before .number4 .ensures))
+
+pub button-words-spec : {M : Type 1} → statement M
+button-words-spec =
+    tie.close
+    (tie.spec
+    bits-requires
+    bit-requires
+    number-requires
+    bit-requires-2
+    number-requires-2
+    number-requires-3
+    number-requires-4
+    same-length
+    returns)
