@@ -14,7 +14,7 @@ use Rattle.replay_answers.specs.declared.Asked.the-variants as asked
 use Rattle.replay_answers.specs.declared.Changed.the-variants as changed
 use Rattle.replay_words.specs.Pieces.{Written, written, laid, laidAll}
 use Rattle.replay_words.specs.Words.{valuePieces}
-use Rattle.replay_lines.specs.Lines.{queryPieces, callPieces, pumped}
+use Rattle.replay_lines.specs.Lines.{queryPieces, callPieces}
 
 -- 96 bytes of 0, nothing printed yet
 empty : Written
@@ -37,5 +37,5 @@ name-line = refl
 pump-line :
     take 17 (laidAll (callPieces [] (changed.Pumped (pumpAnswer.Refused 8 42 0 2))) empty .bytes)
     ≡ R ∷ E ∷ F ∷ U ∷ S ∷ E ∷ D ∷ space ∷ 56 ∷ space ∷ 52 ∷ 50 ∷ space ∷ 48 ∷ space ∷ 50 ∷ newline ∷ []
-unfolding empty callPieces pumped laidAll laid laidOver numberText decimalOf placesOf heldOf linesOf
+unfolding empty callPieces laidAll laid laidOver numberText decimalOf placesOf heldOf linesOf
 pump-line = refl

@@ -19,6 +19,7 @@ use Rattle.rules.specs.declared.AxisAnswer.{AxisAnswer}
 use Rattle.rules.specs.declared.AxisAnswer.the-variants as axisAnswer
 use Rattle.rules.specs.declared.NumberAnswer.{NumberAnswer}
 use Rattle.rules.specs.declared.NumberAnswer.the-variants as numberAnswer
+use Rattle.rules.specs.Names.{noName}
 use Rattle.rules.specs.Answers.{bit}
 use Rattle.rules.specs.Events.{formOf}
 use Rattle.lines.specs.Letters.{A, B, C, D, E, F, G, H, I, K, L, M, N, O, P, R, S, T, U, Vee, W, space, newline}
@@ -58,14 +59,17 @@ registered (registerAnswer.Refused n) = refused n
 
 -- ---- 4: pump, "each event, then `DRAINED`, `FULL`, `PAUSED` or `REFUSED n`, and place, events, steps"
 
-abbrev pub ended : ℕ → ℕ → ℕ → List Piece
-ended place events steps = number place space ∷ number events space ∷ number steps newline ∷ []
+abbrev pub counts : ℕ → ℕ → ℕ → List Piece
+counts place events steps = number place space ∷ number events space ∷ number steps newline ∷ []
 
-unfoldable pub pumped : List ℕ → PumpAnswer → List Piece
-pumped out (pumpAnswer.Drained place events steps) = lines out events ∷ word drainedWord ∷ ended place events steps
-pumped out (pumpAnswer.Full place events steps) = lines out events ∷ word (F ∷ U ∷ L ∷ L ∷ space ∷ []) ∷ ended place events steps
-pumped out (pumpAnswer.Paused place events steps) = lines out events ∷ word (P ∷ A ∷ U ∷ S ∷ E ∷ D ∷ space ∷ []) ∷ ended place events steps
-pumped out (pumpAnswer.Refused n place events steps) = lines out events ∷ labelled refusedWord n space ∷ ended place events steps
+abbrev pub ended : List ℕ → List ℕ → ℕ → ℕ → ℕ → List Piece
+ended out text place events steps = lines out events ∷ word text ∷ counts place events steps
+
+abbrev pub pumped : List ℕ → PumpAnswer → List Piece
+pumped out (pumpAnswer.Drained place events steps) = ended out drainedWord place events steps
+pumped out (pumpAnswer.Full place events steps) = ended out (F ∷ U ∷ L ∷ L ∷ space ∷ []) place events steps
+pumped out (pumpAnswer.Paused place events steps) = ended out (P ∷ A ∷ U ∷ S ∷ E ∷ D ∷ space ∷ []) place events steps
+pumped out (pumpAnswer.Refused n place events steps) = lines out events ∷ labelled refusedWord n space ∷ counts place events steps
 
 -- ---- 7: repeat, "the event, or `NONE`"
 
@@ -107,7 +111,7 @@ nameWord = N ∷ A ∷ M ∷ E ∷ space ∷ []
 
 abbrev pub named : NumberAnswer → List Piece
 named (numberAnswer.Number n) = labelled nameWord n newline ∷ []
-named numberAnswer.Absent = labelled nameWord 255 newline ∷ []
+named numberAnswer.Absent = labelled nameWord noName newline ∷ []
 named (numberAnswer.Refused n) = refused n
 
 abbrev pub code : NumberAnswer → List Piece

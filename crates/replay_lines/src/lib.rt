@@ -7,54 +7,78 @@ use replay_answers::Changed;
 use rules::Answer;
 use rules::AxisAnswer;
 use rules::ButtonAnswer;
+use rules::NO_NAME;
 use rules::NumberAnswer;
 use rules::PumpAnswer;
 use rules::RegisterAnswer;
 use rules::RepeatAnswer;
 use rules::TruthAnswer;
 use rules::ValueAnswer;
+ghost use mathlib.Core.Path.{_≡_};
+ghost use mathlib.Core.List.{[], _∷_};
+ghost use Rattle.rules.specs.Answers.{bit};
+ghost use Rattle.replay_words.specs.Pieces.{written, laidAll, labelled};
+ghost use Rattle.lines.specs.Letters.{newline};
+ghost use Rattle.replay_lines.specs.Lines as law;
+ghost use Rattle.replay_lines.specs.Lines.{queryPieces, callPieces};
 
 // ---- what more than one operation answers
 
 // What is no operation of the form.
-fn none(text: &mut [u8], at: usize) -> usize {
+fn none(text: &mut [u8], at: usize) -> usize
+    ensures { λ r. ⌜ written (now (text .exit)) r ≡ laidAll (law.noOperation) (written (now (text .entry)) at) ⌝ }
+{
     lines::append(text, at, b"NO OPERATION\n")
 }
 
-fn refused(text: &mut [u8], at: usize, number: u8) -> usize {
+fn refused(text: &mut [u8], at: usize, number: u8) -> usize
+    ensures { λ r. ⌜ written (now (text .exit)) r ≡ laidAll (law.refused number) (written (now (text .entry)) at) ⌝ }
+{
     lines::labelled(text, at, b"REFUSED ", number as u64, NEWLINE)
 }
 
-fn absent(text: &mut [u8], at: usize) -> usize {
+fn absent(text: &mut [u8], at: usize) -> usize
+    ensures { λ r. ⌜ written (now (text .exit)) r ≡ laidAll (law.absent) (written (now (text .entry)) at) ⌝ }
+{
     lines::append(text, at, b"ABSENT\n")
 }
 
-fn truth(text: &mut [u8], at: usize, label: &[u8], b: bool) -> usize {
+fn truth(text: &mut [u8], at: usize, label: &[u8], b: bool) -> usize
+    ensures { λ r. ⌜ written (now (text .exit)) r ≡ laidAll (labelled (now (label .entry)) (bit b) newline ∷ []) (written (now (text .entry)) at) ⌝ }
+{
     lines::labelled(text, at, label, replay_words::bit(b), NEWLINE)
 }
 
 // ---- the answers of the calls
 
-fn done(text: &mut [u8], at: usize, word: &[u8], answer: Answer) -> usize {
+fn done(text: &mut [u8], at: usize, word: &[u8], answer: Answer) -> usize
+    ensures { λ r. ⌜ written (now (text .exit)) r ≡ laidAll (law.done (now (word .entry)) answer) (written (now (text .entry)) at) ⌝ }
+{
     match answer {
         Answer::Done => lines::append(text, at, word),
         Answer::Refused(number) => refused(text, at, number),
     }
 }
 
-fn registered(text: &mut [u8], at: usize, answer: RegisterAnswer) -> usize {
+fn registered(text: &mut [u8], at: usize, answer: RegisterAnswer) -> usize
+    ensures { λ r. ⌜ written (now (text .exit)) r ≡ laidAll (law.registered answer) (written (now (text .entry)) at) ⌝ }
+{
     match answer {
         RegisterAnswer::Pad(p) => lines::labelled(text, at, b"PAD ", p as u64, NEWLINE),
         RegisterAnswer::Refused(number) => refused(text, at, number),
     }
 }
 
-fn counted(text: &mut [u8], at: usize, counter: u64) -> usize {
+fn counted(text: &mut [u8], at: usize, counter: u64) -> usize
+    ensures { λ r. ⌜ written (now (text .exit)) r ≡ laidAll (law.counted counter) (written (now (text .entry)) at) ⌝ }
+{
     lines::labelled(text, at, b"COUNTER ", counter, NEWLINE)
 }
 
 // The place, the events written and the steps of a pump.
-fn stopped(text: &mut [u8], at: usize, place: usize, count: usize, steps: usize) -> usize {
+fn stopped(text: &mut [u8], at: usize, place: usize, count: usize, steps: usize) -> usize
+    ensures { λ r. ⌜ written (now (text .exit)) r ≡ laidAll (law.counts place count steps) (written (now (text .entry)) at) ⌝ }
+{
     let events = lines::number(text, at, place as u64, SPACE);
     let made = lines::number(text, events, count as u64, SPACE);
     lines::number(text, made, steps as u64, NEWLINE)
@@ -69,13 +93,17 @@ fn ended(
     place: usize,
     count: usize,
     steps: usize,
-) -> usize {
+) -> usize
+    ensures { λ r. ⌜ written (now (text .exit)) r ≡ laidAll (law.ended (now (out .entry)) (now (word .entry)) place count steps) (written (now (text .entry)) at) ⌝ }
+{
     let last = lines::lines(text, at, out, count);
     let next = lines::append(text, last, word);
     stopped(text, next, place, count, steps)
 }
 
-fn pumped(text: &mut [u8], at: usize, out: &[u8], answer: PumpAnswer) -> usize {
+fn pumped(text: &mut [u8], at: usize, out: &[u8], answer: PumpAnswer) -> usize
+    ensures { λ r. ⌜ written (now (text .exit)) r ≡ laidAll (law.pumped (now (out .entry)) answer) (written (now (text .entry)) at) ⌝ }
+{
     match answer {
         PumpAnswer::Drained(place, count, steps) => {
             ended(text, at, out, b"DRAINED ", place, count, steps)
@@ -94,7 +122,9 @@ fn pumped(text: &mut [u8], at: usize, out: &[u8], answer: PumpAnswer) -> usize {
     }
 }
 
-fn repeated(text: &mut [u8], at: usize, answer: RepeatAnswer) -> usize {
+fn repeated(text: &mut [u8], at: usize, answer: RepeatAnswer) -> usize
+    ensures { λ r. ⌜ written (now (text .exit)) r ≡ laidAll (law.repeated answer) (written (now (text .entry)) at) ⌝ }
+{
     match answer {
         RepeatAnswer::Due(e) => lines::line(text, at, events::form_of(e)),
         RepeatAnswer::Quiet => lines::append(text, at, b"NONE\n"),
@@ -104,14 +134,18 @@ fn repeated(text: &mut [u8], at: usize, answer: RepeatAnswer) -> usize {
 
 // ---- the answers of the queries
 
-fn is(text: &mut [u8], at: usize, label: &[u8], answer: TruthAnswer) -> usize {
+fn is(text: &mut [u8], at: usize, label: &[u8], answer: TruthAnswer) -> usize
+    ensures { λ r. ⌜ written (now (text .exit)) r ≡ laidAll (law.truth (now (label .entry)) answer) (written (now (text .entry)) at) ⌝ }
+{
     match answer {
         TruthAnswer::Is(b) => truth(text, at, label, b),
         TruthAnswer::Refused(number) => refused(text, at, number),
     }
 }
 
-fn value(text: &mut [u8], at: usize, label: &[u8], answer: ValueAnswer) -> usize {
+fn value(text: &mut [u8], at: usize, label: &[u8], answer: ValueAnswer) -> usize
+    ensures { λ r. ⌜ written (now (text .exit)) r ≡ laidAll (law.value (now (label .entry)) answer) (written (now (text .entry)) at) ⌝ }
+{
     match answer {
         ValueAnswer::Value(v) => replay_words::bits(text, at, label, v, NEWLINE),
         ValueAnswer::Absent => absent(text, at),
@@ -119,7 +153,9 @@ fn value(text: &mut [u8], at: usize, label: &[u8], answer: ValueAnswer) -> usize
     }
 }
 
-fn button(text: &mut [u8], at: usize, answer: ButtonAnswer) -> usize {
+fn button(text: &mut [u8], at: usize, answer: ButtonAnswer) -> usize
+    ensures { λ r. ⌜ written (now (text .exit)) r ≡ laidAll (law.button answer) (written (now (text .entry)) at) ⌝ }
+{
     match answer {
         ButtonAnswer::Data(b) => replay_words::button_words(text, at, b"BUTTON ", b),
         ButtonAnswer::Absent => absent(text, at),
@@ -127,7 +163,9 @@ fn button(text: &mut [u8], at: usize, answer: ButtonAnswer) -> usize {
     }
 }
 
-fn stick(text: &mut [u8], at: usize, answer: AxisAnswer) -> usize {
+fn stick(text: &mut [u8], at: usize, answer: AxisAnswer) -> usize
+    ensures { λ r. ⌜ written (now (text .exit)) r ≡ laidAll (law.stick answer) (written (now (text .entry)) at) ⌝ }
+{
     match answer {
         AxisAnswer::Data(a) => replay_words::axis_words(text, at, b"STICK ", a),
         AxisAnswer::Absent => absent(text, at),
@@ -136,15 +174,19 @@ fn stick(text: &mut [u8], at: usize, answer: AxisAnswer) -> usize {
 }
 
 // 255 where the code has no name.
-fn name(text: &mut [u8], at: usize, answer: NumberAnswer) -> usize {
+fn name(text: &mut [u8], at: usize, answer: NumberAnswer) -> usize
+    ensures { λ r. ⌜ written (now (text .exit)) r ≡ laidAll (law.named answer) (written (now (text .entry)) at) ⌝ }
+{
     match answer {
         NumberAnswer::Number(n) => lines::labelled(text, at, b"NAME ", n as u64, NEWLINE),
-        NumberAnswer::Absent => lines::append(text, at, b"NAME 255\n"),
+        NumberAnswer::Absent => lines::labelled(text, at, b"NAME ", NO_NAME as u64, NEWLINE),
         NumberAnswer::Refused(number) => refused(text, at, number),
     }
 }
 
-fn code(text: &mut [u8], at: usize, answer: NumberAnswer) -> usize {
+fn code(text: &mut [u8], at: usize, answer: NumberAnswer) -> usize
+    ensures { λ r. ⌜ written (now (text .exit)) r ≡ laidAll (law.code answer) (written (now (text .entry)) at) ⌝ }
+{
     match answer {
         NumberAnswer::Number(n) => {
             let next = lines::append(text, at, b"CODE ");
@@ -158,7 +200,9 @@ fn code(text: &mut [u8], at: usize, answer: NumberAnswer) -> usize {
 // ---- the lines of any operation
 
 // The line of an operation that leaves the hub as it is.
-pub fn query_line(text: &mut [u8], at: usize, answer: Asked) -> usize {
+pub fn query_line(text: &mut [u8], at: usize, answer: Asked) -> usize
+    ensures { λ r. ⌜ written (now (text .exit)) r ≡ laidAll (queryPieces answer) (written (now (text .entry)) at) ⌝ }
+{
     match answer {
         Asked::Pressed(a) => is(text, at, b"IS ", a),
         Asked::Value(a) => value(text, at, b"VALUE ", a),
@@ -176,7 +220,9 @@ pub fn query_line(text: &mut [u8], at: usize, answer: Asked) -> usize {
 }
 
 // The events of a pump stand in the out buffer.
-pub fn call_lines(text: &mut [u8], at: usize, out: &[u8], answer: Changed) -> usize {
+pub fn call_lines(text: &mut [u8], at: usize, out: &[u8], answer: Changed) -> usize
+    ensures { λ r. ⌜ written (now (text .exit)) r ≡ laidAll (callPieces (now (out .entry)) answer) (written (now (text .entry)) at) ⌝ }
+{
     match answer {
         Changed::Begun(a) => done(text, at, b"HUB\n", a),
         Changed::Registered(a) => registered(text, at, a),

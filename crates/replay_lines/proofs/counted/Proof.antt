@@ -1,0 +1,23 @@
+-- `counted` prints one piece.
+use borrow.Author.Needs.{needs}
+use Rattle.replay_words.proofs.Laws.{lays}
+use Rattle.replay_lines.proofs.counted.Statement.{statement}
+use Rattle.replay_lines.proofs.counted.Tie as tie
+use Rattle.replay_lines.proofs.counted.Reads as reads
+use Rattle.replay_lines.proofs.counted.Lts as lts
+use Rattle.lines.proofs.labelled.Reads as labelled-reads
+
+slice-aggregate-labelled : tie.Need-slice-aggregate-labelled
+slice-aggregate-labelled c = search needs
+
+labelled-requires : tie.Need-labelled-requires
+labelled-requires c κs = tt
+
+same-length : tie.Need-same-length
+same-length c = search needs
+
+returns : tie.Need-returns
+returns c = lays (c .before .before .labelled .ensures)
+
+pub counted-spec : {M : Type 1} → statement M
+counted-spec = tie.close (tie.spec slice-aggregate-labelled labelled-requires same-length returns)

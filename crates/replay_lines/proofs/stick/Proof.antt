@@ -1,0 +1,66 @@
+-- `stick` prints what its definition says in each case.
+use borrow.Author.Needs.{needs}
+use Rattle.replay_lines.proofs.stick.Statement.{statement}
+use Rattle.replay_lines.proofs.stick.Tie as tie
+use Rattle.replay_lines.proofs.stick.Reads as reads
+use Rattle.replay_lines.proofs.stick.Lts as lts
+use Rattle.replay_lines.proofs.absent.Reads as absent-reads
+use Rattle.replay_lines.proofs.refused.Reads as refused-reads
+use Rattle.replay_words.proofs.axis_words.Reads as axis-words-reads
+
+enum-known-answer : tie.Need-enum-known-answer
+enum-known-answer c = search needs
+
+slice-aggregate-axis-words : tie.Need-slice-aggregate-axis-words
+slice-aggregate-axis-words c = search needs
+
+axis-words-requires : tie.Need-axis-words-requires
+axis-words-requires c κs = tt
+
+enum-told : tie.Need-enum-told
+enum-told c = search needs
+
+absent-requires : tie.Need-absent-requires
+absent-requires c κs = tt
+
+enum-known-answer-2 : tie.Need-enum-known-answer-2
+enum-known-answer-2 c = search needs
+
+refused-requires : tie.Need-refused-requires
+refused-requires c κs = tt
+
+same-length : tie.Need-same-length
+same-length c = search needs
+
+returns : tie.Need-returns
+returns c = rw (c .before .before .before .before .before .before .answer .given .1) (c .before .before .axis-words .ensures)
+
+same-length-2 : tie.Need-same-length-2
+same-length-2 c = search needs
+
+returns-2 : tie.Need-returns-2
+returns-2 c = rw (c .before .before .before .before .enum-told .given .1) (c .before .before .absent .ensures)
+
+same-length-3 : tie.Need-same-length-3
+same-length-3 c = search needs
+
+returns-3 : tie.Need-returns-3
+returns-3 c = rw (c .before .before .before .before .before .answer2 .given .1) (c .before .before .refused .ensures)
+
+pub stick-spec : {M : Type 1} → statement M
+stick-spec =
+    tie.close
+    (tie.spec
+    enum-known-answer
+    slice-aggregate-axis-words
+    axis-words-requires
+    enum-told
+    absent-requires
+    enum-known-answer-2
+    refused-requires
+    same-length
+    returns
+    same-length-2
+    returns-2
+    same-length-3
+    returns-3)
