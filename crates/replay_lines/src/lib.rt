@@ -1,5 +1,5 @@
-// The lines of what the operations of the oracle's scenario form (`oracle/README.md`) answer. Each function appends to a buffer at a place and
-// answers the next place; where the buffer has no room it writes nothing there, as `lines` does.
+// The lines of what the operations of the oracle's scenario form (`oracle/README.md`) answer. Each function appends to a buffer at a place and answers the next place;
+// it prints the pieces of its definition in `specs/Lines.antt`, each where the buffer has room for it, for every answer and every buffer.
 use lines::NEWLINE;
 use lines::SPACE;
 use replay_answers::Asked;
@@ -94,7 +94,8 @@ fn ended(
     count: usize,
     steps: usize,
 ) -> usize
-    ensures { λ r. ⌜ written (now (text .exit)) r ≡ laidAll (law.ended (now (out .entry)) (now (word .entry)) place count steps) (written (now (text .entry)) at) ⌝ }
+    ensures { λ r. ⌜ written (now (text .exit)) r
+        ≡ laidAll (law.ended (now (out .entry)) (now (word .entry)) place count steps) (written (now (text .entry)) at) ⌝ }
 {
     let last = lines::lines(text, at, out, count);
     let next = lines::append(text, last, word);

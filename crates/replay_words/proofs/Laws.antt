@@ -25,12 +25,12 @@ laid-all-append [] qs w = refl
 laid-all-append (p ∷ ps) qs w = laid-all-append ps qs (laid p w)
 
 -- pieces behind others
-pub behind : (ps qs : List Piece) (v w x : Written) → w ≡ laidAll ps v → x ≡ laidAll qs w → x ≡ laidAll (ps ++ qs) v
-behind ps qs v w x e f = f ∙ ap (laidAll qs) e ∙ sym (laid-all-append ps qs v)
+pub behind : {w x : Written} (ps qs : List Piece) (v : Written) → w ≡ laidAll ps v → x ≡ laidAll qs w → x ≡ laidAll (ps ++ qs) v
+behind ps qs v e f = f ∙ ap (laidAll qs) e ∙ sym (laid-all-append ps qs v)
 
 -- one append behind pieces
-pub then : (ps : List Piece) (v : Written) (mid : List ℕ) (place room : ℕ) (text after : List ℕ) (next : ℕ)
+pub then : {mid : List ℕ} {place room : ℕ} {text after : List ℕ} {next : ℕ} (ps : List Piece) (v : Written)
     → written mid place ≡ laidAll ps v
     → Appended room text mid place after next
     → written after next ≡ laidAll (ps ++ (piece room text ∷ [])) v
-then ps v mid place room text after next e a = behind ps _ v _ _ e (lays a)
+then ps v e a = behind ps _ v e (lays a)

@@ -1,5 +1,5 @@
-// The words that more than one of replay's crates prints, in the oracle's scenario form (`oracle/README.md`). Each function appends to a buffer at a place and answers
-// the next place; where the buffer has no room it writes nothing there, as `lines` does.
+// The words that more than one of replay's crates prints (`oracle/README.md`). Each function appends to a buffer at a place and answers the next place; it prints
+// the pieces of its definition in `specs/Words.antt`, each where the buffer has room for it.
 use lines::NEWLINE;
 use lines::SPACE;
 use rules::AxisData;

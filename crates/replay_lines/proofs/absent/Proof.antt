@@ -1,14 +1,12 @@
 -- `absent` prints one piece.
+use mathlib.Core.Path.{refl}
 use borrow.Author.Needs.{needs}
 use Rattle.replay_words.proofs.Laws.{lays}
 use Rattle.replay_lines.proofs.absent.Statement.{statement}
 use Rattle.replay_lines.proofs.absent.Tie as tie
-use Rattle.replay_lines.proofs.absent.Reads as reads
-use Rattle.replay_lines.proofs.absent.Lts as lts
-use Rattle.lines.proofs.append.Reads as append-reads
 
 slice-aggregate-append : tie.Need-slice-aggregate-append
-slice-aggregate-append c = search needs
+slice-aggregate-append c = refl
 
 append-requires : tie.Need-append-requires
 append-requires c κs = tt

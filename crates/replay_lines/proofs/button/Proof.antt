@@ -1,30 +1,26 @@
 -- `button` prints what its definition says in each case.
+use mathlib.Core.Path.{refl}
 use borrow.Author.Needs.{needs}
 use Rattle.replay_lines.proofs.button.Statement.{statement}
 use Rattle.replay_lines.proofs.button.Tie as tie
-use Rattle.replay_lines.proofs.button.Reads as reads
-use Rattle.replay_lines.proofs.button.Lts as lts
-use Rattle.replay_lines.proofs.absent.Reads as absent-reads
-use Rattle.replay_lines.proofs.refused.Reads as refused-reads
-use Rattle.replay_words.proofs.button_words.Reads as button-words-reads
 
 enum-known-answer : tie.Need-enum-known-answer
-enum-known-answer c = search needs
+enum-known-answer c = c .match .keys1
 
 slice-aggregate-button-words : tie.Need-slice-aggregate-button-words
-slice-aggregate-button-words c = search needs
+slice-aggregate-button-words c = refl
 
 button-words-requires : tie.Need-button-words-requires
 button-words-requires c κs = tt
 
 enum-told : tie.Need-enum-told
-enum-told c = search needs
+enum-told c = c .match .keys2
 
 absent-requires : tie.Need-absent-requires
 absent-requires c κs = tt
 
 enum-known-answer-2 : tie.Need-enum-known-answer-2
-enum-known-answer-2 c = search needs
+enum-known-answer-2 c = c .match .keys3
 
 refused-requires : tie.Need-refused-requires
 refused-requires c κs = tt

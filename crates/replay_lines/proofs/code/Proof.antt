@@ -1,20 +1,15 @@
 -- `code` prints what its definition says in each case.
+use mathlib.Core.Path.{refl}
 use borrow.Author.Needs.{needs}
 use Rattle.replay_words.proofs.Laws.{lays, then}
 use Rattle.replay_lines.proofs.code.Statement.{statement}
 use Rattle.replay_lines.proofs.code.Tie as tie
-use Rattle.replay_lines.proofs.code.Reads as reads
-use Rattle.replay_lines.proofs.code.Lts as lts
-use Rattle.lines.proofs.append.Reads as append-reads
-use Rattle.lines.proofs.hex.Reads as hex-reads
-use Rattle.replay_lines.proofs.absent.Reads as absent-reads
-use Rattle.replay_lines.proofs.refused.Reads as refused-reads
 
 enum-known-answer : tie.Need-enum-known-answer
-enum-known-answer c = search needs
+enum-known-answer c = c .match .keys1
 
 slice-aggregate-append : tie.Need-slice-aggregate-append
-slice-aggregate-append c = search needs
+slice-aggregate-append c = refl
 
 append-requires : tie.Need-append-requires
 append-requires c κs = tt
@@ -23,13 +18,13 @@ hex-requires : tie.Need-hex-requires
 hex-requires c κs = tt
 
 enum-told : tie.Need-enum-told
-enum-told c = search needs
+enum-told c = c .match .keys2
 
 absent-requires : tie.Need-absent-requires
 absent-requires c κs = tt
 
 enum-known-answer-2 : tie.Need-enum-known-answer-2
-enum-known-answer-2 c = search needs
+enum-known-answer-2 c = c .match .keys3
 
 refused-requires : tie.Need-refused-requires
 refused-requires c κs = tt
@@ -38,7 +33,10 @@ same-length : tie.Need-same-length
 same-length c = search needs
 
 returns : tie.Need-returns
-returns c = rw (c .before .before .before .before .before .before .before .before .before .before .answer .given .1) (then _ _ _ _ _ _ _ _ (lays (c .before .before .before .before .before .before .append .ensures)) (c .before .before .hex .ensures))
+returns c =
+    let digits = c .before .before in
+    let label = digits .before .before .before .before in
+    rw (label .before .before .before .before .answer .given .1) (then _ _ (lays (label .append .ensures)) (digits .hex .ensures))
 
 same-length-2 : tie.Need-same-length-2
 same-length-2 c = search needs

@@ -3,19 +3,15 @@ use borrow.Author.Needs.{needs}
 use Rattle.replay_words.proofs.Laws.{lays}
 use Rattle.replay_lines.proofs.done.Statement.{statement}
 use Rattle.replay_lines.proofs.done.Tie as tie
-use Rattle.replay_lines.proofs.done.Reads as reads
-use Rattle.replay_lines.proofs.done.Lts as lts
-use Rattle.lines.proofs.append.Reads as append-reads
-use Rattle.replay_lines.proofs.refused.Reads as refused-reads
 
 enum-told : tie.Need-enum-told
-enum-told c = search needs
+enum-told c = c .match .keys1
 
 append-requires : tie.Need-append-requires
 append-requires c κs = tt
 
 enum-known-answer : tie.Need-enum-known-answer
-enum-known-answer c = search needs
+enum-known-answer c = c .match .keys2
 
 refused-requires : tie.Need-refused-requires
 refused-requires c κs = tt

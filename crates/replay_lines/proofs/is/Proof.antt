@@ -2,19 +2,15 @@
 use borrow.Author.Needs.{needs}
 use Rattle.replay_lines.proofs.is.Statement.{statement}
 use Rattle.replay_lines.proofs.is.Tie as tie
-use Rattle.replay_lines.proofs.is.Reads as reads
-use Rattle.replay_lines.proofs.is.Lts as lts
-use Rattle.replay_lines.proofs.refused.Reads as refused-reads
-use Rattle.replay_lines.proofs.truth.Reads as truth-reads
 
 enum-known-answer : tie.Need-enum-known-answer
-enum-known-answer c = search needs
+enum-known-answer c = c .match .keys1
 
 truth-requires : tie.Need-truth-requires
 truth-requires c κs = tt
 
 enum-known-answer-2 : tie.Need-enum-known-answer-2
-enum-known-answer-2 c = search needs
+enum-known-answer-2 c = c .match .keys2
 
 refused-requires : tie.Need-refused-requires
 refused-requires c κs = tt

@@ -1,50 +1,45 @@
 -- `pumped` prints what its definition says in each case; a refused pump has its number behind the events.
+use mathlib.Core.Path.{refl}
 use borrow.Author.Needs.{needs}
 use Rattle.replay_words.proofs.Laws.{lays, then, behind}
 use Rattle.replay_lines.proofs.pumped.Statement.{statement}
 use Rattle.replay_lines.proofs.pumped.Tie as tie
-use Rattle.replay_lines.proofs.pumped.Reads as reads
-use Rattle.replay_lines.proofs.pumped.Lts as lts
-use Rattle.lines.proofs.labelled.Reads as labelled-reads
-use Rattle.lines.proofs.lines.Reads as lines-reads
-use Rattle.replay_lines.proofs.ended.Reads as ended-reads
-use Rattle.replay_lines.proofs.stopped.Reads as stopped-reads
 
 enum-known-answer : tie.Need-enum-known-answer
-enum-known-answer c = search needs
+enum-known-answer c = c .match .keys1
 
 slice-aggregate-ended : tie.Need-slice-aggregate-ended
-slice-aggregate-ended c = search needs
+slice-aggregate-ended c = refl
 
 ended-requires : tie.Need-ended-requires
 ended-requires c κs = tt
 
 enum-known-answer-2 : tie.Need-enum-known-answer-2
-enum-known-answer-2 c = search needs
+enum-known-answer-2 c = c .match .keys2
 
 slice-aggregate-ended-2 : tie.Need-slice-aggregate-ended-2
-slice-aggregate-ended-2 c = search needs
+slice-aggregate-ended-2 c = refl
 
 ended-requires-2 : tie.Need-ended-requires-2
 ended-requires-2 c κs = tt
 
 enum-known-answer-3 : tie.Need-enum-known-answer-3
-enum-known-answer-3 c = search needs
+enum-known-answer-3 c = c .match .keys3
 
 slice-aggregate-ended-3 : tie.Need-slice-aggregate-ended-3
-slice-aggregate-ended-3 c = search needs
+slice-aggregate-ended-3 c = refl
 
 ended-requires-3 : tie.Need-ended-requires-3
 ended-requires-3 c κs = tt
 
 enum-known-answer-4 : tie.Need-enum-known-answer-4
-enum-known-answer-4 c = search needs
+enum-known-answer-4 c = c .match .keys4
 
 lines-requires : tie.Need-lines-requires
 lines-requires c κs = tt
 
 slice-aggregate-labelled : tie.Need-slice-aggregate-labelled
-slice-aggregate-labelled c = search needs
+slice-aggregate-labelled c = refl
 
 cast-labelled : tie.Need-cast-labelled
 cast-labelled c = search needs
@@ -77,7 +72,11 @@ same-length-4 : tie.Need-same-length-4
 same-length-4 c = search needs
 
 returns-4 : tie.Need-returns-4
-returns-4 c = rw (c .before .before .before .before .before .before .before .before .before .before .before .before .before .before .answer4 .given .1) (behind _ _ _ _ _ (then _ _ _ _ _ _ _ _ (lays (c .before .before .before .before .before .before .before .before .before .before .before .lines .ensures)) (c .before .before .before .before .before .before .labelled .ensures)) (c .before .before .stopped .ensures))
+returns-4 c =
+    let numbers = c .before .before in
+    let refusal = numbers .before .before .before .before in
+    let events = refusal .before .before .before .before .before in
+    rw (events .before .before .before .answer4 .given .1) (behind _ _ _ (then _ _ (lays (events .lines .ensures)) (refusal .labelled .ensures)) (numbers .stopped .ensures))
 
 pub pumped-spec : {M : Type 1} → statement M
 pumped-spec =

@@ -1,18 +1,15 @@
 -- `registered` prints what its definition says in each case.
+use mathlib.Core.Path.{refl}
 use borrow.Author.Needs.{needs}
 use Rattle.replay_words.proofs.Laws.{lays}
 use Rattle.replay_lines.proofs.registered.Statement.{statement}
 use Rattle.replay_lines.proofs.registered.Tie as tie
-use Rattle.replay_lines.proofs.registered.Reads as reads
-use Rattle.replay_lines.proofs.registered.Lts as lts
-use Rattle.lines.proofs.labelled.Reads as labelled-reads
-use Rattle.replay_lines.proofs.refused.Reads as refused-reads
 
 enum-known-answer : tie.Need-enum-known-answer
-enum-known-answer c = search needs
+enum-known-answer c = c .match .keys1
 
 slice-aggregate-labelled : tie.Need-slice-aggregate-labelled
-slice-aggregate-labelled c = search needs
+slice-aggregate-labelled c = refl
 
 cast-labelled : tie.Need-cast-labelled
 cast-labelled c = search needs
@@ -21,7 +18,7 @@ labelled-requires : tie.Need-labelled-requires
 labelled-requires c κs = tt
 
 enum-known-answer-2 : tie.Need-enum-known-answer-2
-enum-known-answer-2 c = search needs
+enum-known-answer-2 c = c .match .keys2
 
 refused-requires : tie.Need-refused-requires
 refused-requires c κs = tt

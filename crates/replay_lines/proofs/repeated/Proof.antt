@@ -1,17 +1,12 @@
 -- `repeated` prints what its definition says in each case.
+use mathlib.Core.Path.{refl}
 use borrow.Author.Needs.{needs}
 use Rattle.replay_words.proofs.Laws.{lays}
 use Rattle.replay_lines.proofs.repeated.Statement.{statement}
 use Rattle.replay_lines.proofs.repeated.Tie as tie
-use Rattle.replay_lines.proofs.repeated.Reads as reads
-use Rattle.replay_lines.proofs.repeated.Lts as lts
-use Rattle.events.proofs.form_of.Reads as form-of-reads
-use Rattle.lines.proofs.append.Reads as append-reads
-use Rattle.lines.proofs.line.Reads as line-reads
-use Rattle.replay_lines.proofs.refused.Reads as refused-reads
 
 enum-known-answer : tie.Need-enum-known-answer
-enum-known-answer c = search needs
+enum-known-answer c = c .match .keys1
 
 form-of-requires : tie.Need-form-of-requires
 form-of-requires c κs = tt
@@ -20,16 +15,16 @@ line-requires : tie.Need-line-requires
 line-requires c κs = tt
 
 enum-told : tie.Need-enum-told
-enum-told c = search needs
+enum-told c = c .match .keys2
 
 slice-aggregate-append : tie.Need-slice-aggregate-append
-slice-aggregate-append c = search needs
+slice-aggregate-append c = refl
 
 append-requires : tie.Need-append-requires
 append-requires c κs = tt
 
 enum-known-answer-2 : tie.Need-enum-known-answer-2
-enum-known-answer-2 c = search needs
+enum-known-answer-2 c = c .match .keys3
 
 refused-requires : tie.Need-refused-requires
 refused-requires c κs = tt
@@ -38,7 +33,9 @@ same-length : tie.Need-same-length
 same-length c = search needs
 
 returns : tie.Need-returns
-returns c = rw (c .before .before .before .before .before .before .answer .given .1, ← c .before .before .before .form-of .ensures) (lays (c .before .before .line .ensures))
+returns c =
+    let printed = c .before .before in
+    rw (printed .before .before .before .before .answer .given .1, ← printed .before .form-of .ensures) (lays (printed .line .ensures))
 
 same-length-2 : tie.Need-same-length-2
 same-length-2 c = search needs

@@ -1,30 +1,26 @@
 -- `stick` prints what its definition says in each case.
+use mathlib.Core.Path.{refl}
 use borrow.Author.Needs.{needs}
 use Rattle.replay_lines.proofs.stick.Statement.{statement}
 use Rattle.replay_lines.proofs.stick.Tie as tie
-use Rattle.replay_lines.proofs.stick.Reads as reads
-use Rattle.replay_lines.proofs.stick.Lts as lts
-use Rattle.replay_lines.proofs.absent.Reads as absent-reads
-use Rattle.replay_lines.proofs.refused.Reads as refused-reads
-use Rattle.replay_words.proofs.axis_words.Reads as axis-words-reads
 
 enum-known-answer : tie.Need-enum-known-answer
-enum-known-answer c = search needs
+enum-known-answer c = c .match .keys1
 
 slice-aggregate-axis-words : tie.Need-slice-aggregate-axis-words
-slice-aggregate-axis-words c = search needs
+slice-aggregate-axis-words c = refl
 
 axis-words-requires : tie.Need-axis-words-requires
 axis-words-requires c κs = tt
 
 enum-told : tie.Need-enum-told
-enum-told c = search needs
+enum-told c = c .match .keys2
 
 absent-requires : tie.Need-absent-requires
 absent-requires c κs = tt
 
 enum-known-answer-2 : tie.Need-enum-known-answer-2
-enum-known-answer-2 c = search needs
+enum-known-answer-2 c = c .match .keys3
 
 refused-requires : tie.Need-refused-requires
 refused-requires c κs = tt

@@ -3,10 +3,6 @@ use borrow.Author.Needs.{needs}
 use Rattle.replay_words.proofs.Laws.{lays}
 use Rattle.replay_lines.proofs.truth.Statement.{statement}
 use Rattle.replay_lines.proofs.truth.Tie as tie
-use Rattle.replay_lines.proofs.truth.Reads as reads
-use Rattle.replay_lines.proofs.truth.Lts as lts
-use Rattle.lines.proofs.labelled.Reads as labelled-reads
-use Rattle.replay_words.proofs.bit.Reads as bit-reads
 
 bit-requires : tie.Need-bit-requires
 bit-requires c κs = tt

@@ -2,26 +2,21 @@
 use borrow.Author.Needs.{needs}
 use Rattle.replay_lines.proofs.value.Statement.{statement}
 use Rattle.replay_lines.proofs.value.Tie as tie
-use Rattle.replay_lines.proofs.value.Reads as reads
-use Rattle.replay_lines.proofs.value.Lts as lts
-use Rattle.replay_lines.proofs.absent.Reads as absent-reads
-use Rattle.replay_lines.proofs.refused.Reads as refused-reads
-use Rattle.replay_words.proofs.bits.Reads as bits-reads
 
 enum-known-answer : tie.Need-enum-known-answer
-enum-known-answer c = search needs
+enum-known-answer c = c .match .keys1
 
 bits-requires : tie.Need-bits-requires
 bits-requires c κs = tt
 
 enum-told : tie.Need-enum-told
-enum-told c = search needs
+enum-told c = c .match .keys2
 
 absent-requires : tie.Need-absent-requires
 absent-requires c κs = tt
 
 enum-known-answer-2 : tie.Need-enum-known-answer-2
-enum-known-answer-2 c = search needs
+enum-known-answer-2 c = c .match .keys3
 
 refused-requires : tie.Need-refused-requires
 refused-requires c κs = tt

@@ -4,10 +4,6 @@ use Rattle.replay_words.proofs.Laws.{then}
 use borrow.Author.Needs.{needs}
 use Rattle.replay_words.proofs.axis_words.Statement.{statement}
 use Rattle.replay_words.proofs.axis_words.Tie as tie
-use Rattle.replay_words.proofs.axis_words.Reads as reads
-use Rattle.replay_words.proofs.axis_words.Lts as lts
-use Rattle.lines.proofs.number.Reads as number-reads
-use Rattle.replay_words.proofs.bits.Reads as bits-reads
 
 bits-requires : tie.Need-bits-requires
 bits-requires c κs = search needs
@@ -24,7 +20,10 @@ same-length c = search needs
 returns : tie.Need-returns
 unfolding valuePieces axisPieces
 returns c =
-    then _ _ _ _ _ _ _ _ (then _ _ _ _ _ _ _ _ (c .before .before .before .before .before .before .before .before .before .before .bits .ensures) (c .before .before .before .before .before .before .number .ensures)) (c .before .before .number2 .ensures)
+    let stamp = c .before .before in
+    let counter = stamp .before .before .before .before in
+    let value = counter .before .before .before .before in
+    then _ _ (then _ _ (value .bits .ensures) (counter .number .ensures)) (stamp .number2 .ensures)
 
 pub axis-words-spec : {M : Type 1} → statement M
 axis-words-spec =

@@ -4,11 +4,6 @@ use Rattle.replay_words.proofs.Laws.{then}
 use borrow.Author.Needs.{needs}
 use Rattle.replay_words.proofs.button_words.Statement.{statement}
 use Rattle.replay_words.proofs.button_words.Tie as tie
-use Rattle.replay_words.proofs.button_words.Reads as reads
-use Rattle.replay_words.proofs.button_words.Lts as lts
-use Rattle.lines.proofs.number.Reads as number-reads
-use Rattle.replay_words.proofs.bit.Reads as bit-reads
-use Rattle.replay_words.proofs.bits.Reads as bits-reads
 
 bits-requires : tie.Need-bits-requires
 bits-requires c κs = search needs
@@ -37,10 +32,13 @@ same-length c = search needs
 returns : tie.Need-returns
 unfolding valuePieces buttonPieces
 returns c =
-    let one = then _ _ _ _ _ _ _ _ (c .before .before .before .before .before .before .before .before .before .before .before .before .before .before .before .before .before .before .before .before .bits .ensures) (c .before .before .before .before .before .before .before .before .before .before .before .before .before .before .before .number .ensures) in
-    let two = then _ _ _ _ _ _ _ _ one (c .before .before .before .before .before .before .before .before .before .before .number2 .ensures) in
-    let three = then _ _ _ _ _ _ _ _ two (c .before .before .before .before .before .before .number3 .ensures) in
-    rw (← c .before .before .before .before .before .before .before .before .before .before .before .before .before .before .before .before .bit .ensures, ← c .before .before .before .before .before .before .before .before .before .before .before .bit2 .ensures) (then _ _ _ _ _ _ _ _ three (c .before .before .number4 .ensures))
+    let stamp = c .before .before in
+    let counter = stamp .before .before .before .before in
+    let repeating = counter .before .before .before .before in
+    let pressed = repeating .before .before .before .before .before in
+    let value = pressed .before .before .before .before .before in
+    let marks = then _ _ (then _ _ (value .bits .ensures) (pressed .number .ensures)) (repeating .number2 .ensures) in
+    rw (← pressed .before .bit .ensures, ← repeating .before .bit2 .ensures) (then _ _ (then _ _ marks (counter .number3 .ensures)) (stamp .number4 .ensures))
 
 pub button-words-spec : {M : Type 1} → statement M
 button-words-spec =
