@@ -13,7 +13,6 @@ use Rattle.lines.specs.Letters.{A, D, E, F, L, M, N, R, S, U, Vee, space, newli
 use Rattle.replay_answers.specs.declared.Asked.the-variants as asked
 use Rattle.replay_answers.specs.declared.Changed.the-variants as changed
 use Rattle.replay_words.specs.Pieces.{Written, written, laid, laidAll}
-use Rattle.replay_words.specs.Words.{valuePieces}
 use Rattle.replay_lines.specs.Lines.{queryPieces, callPieces}
 
 -- 96 bytes of 0, nothing printed yet
@@ -24,7 +23,7 @@ empty = written (replicate 96 0) 0
 value-line :
     take 15 (laidAll (queryPieces (asked.Value (valueAnswer.Value (Ieee.ofBits binary32 0x3f800000)))) empty .bytes)
     ≡ Vee ∷ A ∷ L ∷ U ∷ E ∷ space ∷ 51 ∷ 102 ∷ 56 ∷ 48 ∷ 48 ∷ 48 ∷ 48 ∷ 48 ∷ newline ∷ []
-unfolding empty queryPieces valuePieces laidAll laid laidOver hexText hexOf Ieee.ofBits Ieee.toBits
+unfolding empty queryPieces laidAll laid laidOver hexText hexOf Ieee.ofBits Ieee.toBits
 value-line = refl
 
 -- "NAME 255"

@@ -1,6 +1,7 @@
 -- The lines that say what an operation answered, in the order of the table of `oracle/README.md`. Definitions only.
 use Prim.Native.Nat.{ℕ}
 use mathlib.Core.List.{List, [], _∷_}
+use lib.Ieee.{binary32, toBits}
 use Rattle.rules.specs.declared.Answer.{Answer}
 use Rattle.rules.specs.declared.Answer.the-variants as answer
 use Rattle.rules.specs.declared.RegisterAnswer.{RegisterAnswer}
@@ -29,7 +30,7 @@ use Rattle.replay_answers.specs.declared.Asked.the-variants as asked
 use Rattle.replay_answers.specs.declared.Changed.{Changed}
 use Rattle.replay_answers.specs.declared.Changed.the-variants as changed
 use Rattle.replay_words.specs.Pieces.{Piece, word, number, hex, labelled, line, lines}
-use Rattle.replay_words.specs.Words.{valuePieces, buttonPieces, axisPieces}
+use Rattle.replay_words.specs.Words.{buttonPieces, axisPieces}
 
 -- ---- what more than one operation answers
 
@@ -90,17 +91,17 @@ truth label (truthAnswer.Is b) = labelled label (bit b) newline ∷ []
 truth label (truthAnswer.Refused n) = refused n
 
 abbrev pub value : List ℕ → ValueAnswer → List Piece
-value label (valueAnswer.Value v) = valuePieces label v newline
+value label (valueAnswer.Value v) = word label ∷ hex (toBits binary32 v) newline ∷ []
 value label valueAnswer.Absent = absent
 value label (valueAnswer.Refused n) = refused n
 
 abbrev pub button : ButtonAnswer → List Piece
-button (buttonAnswer.Data b) = buttonPieces (B ∷ U ∷ T ∷ T ∷ O ∷ N ∷ space ∷ []) b
+button (buttonAnswer.Data b) = word (B ∷ U ∷ T ∷ T ∷ O ∷ N ∷ space ∷ []) ∷ buttonPieces b
 button buttonAnswer.Absent = absent
 button (buttonAnswer.Refused n) = refused n
 
 abbrev pub stick : AxisAnswer → List Piece
-stick (axisAnswer.Data a) = axisPieces (S ∷ T ∷ I ∷ C ∷ K ∷ space ∷ []) a
+stick (axisAnswer.Data a) = word (S ∷ T ∷ I ∷ C ∷ K ∷ space ∷ []) ∷ axisPieces a
 stick axisAnswer.Absent = absent
 stick (axisAnswer.Refused n) = refused n
 

@@ -148,7 +148,10 @@ fn value(text: &mut [u8], at: usize, label: &[u8], answer: ValueAnswer) -> usize
     ensures { λ r. ⌜ written (now (text .exit)) r ≡ laidAll (law.value (now (label .entry)) answer) (written (now (text .entry)) at) ⌝ }
 {
     match answer {
-        ValueAnswer::Value(v) => replay_words::bits(text, at, label, v, NEWLINE),
+        ValueAnswer::Value(v) => {
+            let next = lines::append(text, at, label);
+            lines::hex(text, next, binary32::bits_of(v), NEWLINE)
+        }
         ValueAnswer::Absent => absent(text, at),
         ValueAnswer::Refused(number) => refused(text, at, number),
     }
@@ -158,7 +161,10 @@ fn button(text: &mut [u8], at: usize, answer: ButtonAnswer) -> usize
     ensures { λ r. ⌜ written (now (text .exit)) r ≡ laidAll (law.button answer) (written (now (text .entry)) at) ⌝ }
 {
     match answer {
-        ButtonAnswer::Data(b) => replay_words::button_words(text, at, b"BUTTON ", b),
+        ButtonAnswer::Data(b) => {
+            let next = lines::append(text, at, b"BUTTON ");
+            replay_words::button_words(text, next, b)
+        }
         ButtonAnswer::Absent => absent(text, at),
         ButtonAnswer::Refused(number) => refused(text, at, number),
     }
@@ -168,7 +174,10 @@ fn stick(text: &mut [u8], at: usize, answer: AxisAnswer) -> usize
     ensures { λ r. ⌜ written (now (text .exit)) r ≡ laidAll (law.stick answer) (written (now (text .entry)) at) ⌝ }
 {
     match answer {
-        AxisAnswer::Data(a) => replay_words::axis_words(text, at, b"STICK ", a),
+        AxisAnswer::Data(a) => {
+            let next = lines::append(text, at, b"STICK ");
+            replay_words::axis_words(text, next, a)
+        }
         AxisAnswer::Absent => absent(text, at),
         AxisAnswer::Refused(number) => refused(text, at, number),
     }

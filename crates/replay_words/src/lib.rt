@@ -7,9 +7,7 @@ use rules::ButtonData;
 ghost use mathlib.Core.Path.{_≡_};
 ghost use Rattle.rules.specs.Answers.{bit as bitOf};
 ghost use Rattle.replay_words.specs.Pieces.{written, laidAll};
-ghost use Rattle.replay_words.specs.Words.{valuePieces, buttonPieces, axisPieces};
-
-// ---- words
+ghost use Rattle.replay_words.specs.Words.{buttonPieces, axisPieces};
 
 // A mark as a digit's number.
 pub fn bit(b: bool) -> u64
@@ -18,32 +16,24 @@ pub fn bit(b: bool) -> u64
     if b { 1 } else { 0 }
 }
 
-// A value behind a label, as eight hex digits.
-pub fn bits(text: &mut [u8], at: usize, label: &[u8], v: f32, end: u8) -> usize
-    ensures { λ r. ⌜ written (now (text .exit)) r ≡ laidAll (valuePieces (now (label .entry)) v end) (written (now (text .entry)) at) ⌝ }
-{
-    let next = lines::append(text, at, label);
-    lines::hex(text, next, binary32::bits_of(v), end)
-}
-
 // ---- records
 
-// A button record's words behind a label: value, pressed, repeating, counter, stamp.
-pub fn button_words(text: &mut [u8], at: usize, label: &[u8], b: ButtonData) -> usize
-    ensures { λ r. ⌜ written (now (text .exit)) r ≡ laidAll (buttonPieces (now (label .entry)) b) (written (now (text .entry)) at) ⌝ }
+// A button record's words: value, pressed, repeating, counter, stamp.
+pub fn button_words(text: &mut [u8], at: usize, b: ButtonData) -> usize
+    ensures { λ r. ⌜ written (now (text .exit)) r ≡ laidAll (buttonPieces b) (written (now (text .entry)) at) ⌝ }
 {
-    let pressed = bits(text, at, label, b.value, SPACE);
+    let pressed = lines::hex(text, at, binary32::bits_of(b.value), SPACE);
     let repeating = lines::number(text, pressed, bit(b.pressed), SPACE);
     let counter = lines::number(text, repeating, bit(b.repeating), SPACE);
     let stamp = lines::number(text, counter, b.counter, SPACE);
     lines::number(text, stamp, b.stamp, NEWLINE)
 }
 
-// An axis record's words behind a label: value, counter, stamp.
-pub fn axis_words(text: &mut [u8], at: usize, label: &[u8], a: AxisData) -> usize
-    ensures { λ r. ⌜ written (now (text .exit)) r ≡ laidAll (axisPieces (now (label .entry)) a) (written (now (text .entry)) at) ⌝ }
+// An axis record's words: value, counter, stamp.
+pub fn axis_words(text: &mut [u8], at: usize, a: AxisData) -> usize
+    ensures { λ r. ⌜ written (now (text .exit)) r ≡ laidAll (axisPieces a) (written (now (text .entry)) at) ⌝ }
 {
-    let counter = bits(text, at, label, a.value, SPACE);
+    let counter = lines::hex(text, at, binary32::bits_of(a.value), SPACE);
     let stamp = lines::number(text, counter, a.counter, SPACE);
     lines::number(text, stamp, a.stamp, NEWLINE)
 }

@@ -1,14 +1,18 @@
 -- `button` prints what its definition says in each case.
 use mathlib.Core.Path.{refl}
 use borrow.Author.Needs.{needs}
+use Rattle.replay_words.proofs.Laws.{lays, behind}
 use Rattle.replay_lines.proofs.button.Statement.{statement}
 use Rattle.replay_lines.proofs.button.Tie as tie
 
 enum-known-answer : tie.Need-enum-known-answer
 enum-known-answer c = c .match .keys1
 
-slice-aggregate-button-words : tie.Need-slice-aggregate-button-words
-slice-aggregate-button-words c = refl
+slice-aggregate-append : tie.Need-slice-aggregate-append
+slice-aggregate-append c = refl
+
+append-requires : tie.Need-append-requires
+append-requires c κs = tt
 
 button-words-requires : tie.Need-button-words-requires
 button-words-requires c κs = tt
@@ -29,7 +33,10 @@ same-length : tie.Need-same-length
 same-length c = search needs
 
 returns : tie.Need-returns
-returns c = rw (c .before .before .before .before .before .before .answer .given .1) (c .before .before .button-words .ensures)
+returns c =
+    let words = c .before .before in
+    let label = words .before .before .before .before in
+    rw (label .before .before .before .before .answer .given .1) (behind _ _ _ (lays (label .append .ensures)) (words .button-words .ensures))
 
 same-length-2 : tie.Need-same-length-2
 same-length-2 c = search needs
@@ -48,7 +55,8 @@ button-spec =
     tie.close
     (tie.spec
     enum-known-answer
-    slice-aggregate-button-words
+    slice-aggregate-append
+    append-requires
     button-words-requires
     enum-told
     absent-requires

@@ -1,14 +1,18 @@
 -- `stick` prints what its definition says in each case.
 use mathlib.Core.Path.{refl}
 use borrow.Author.Needs.{needs}
+use Rattle.replay_words.proofs.Laws.{lays, behind}
 use Rattle.replay_lines.proofs.stick.Statement.{statement}
 use Rattle.replay_lines.proofs.stick.Tie as tie
 
 enum-known-answer : tie.Need-enum-known-answer
 enum-known-answer c = c .match .keys1
 
-slice-aggregate-axis-words : tie.Need-slice-aggregate-axis-words
-slice-aggregate-axis-words c = refl
+slice-aggregate-append : tie.Need-slice-aggregate-append
+slice-aggregate-append c = refl
+
+append-requires : tie.Need-append-requires
+append-requires c κs = tt
 
 axis-words-requires : tie.Need-axis-words-requires
 axis-words-requires c κs = tt
@@ -29,7 +33,10 @@ same-length : tie.Need-same-length
 same-length c = search needs
 
 returns : tie.Need-returns
-returns c = rw (c .before .before .before .before .before .before .answer .given .1) (c .before .before .axis-words .ensures)
+returns c =
+    let words = c .before .before in
+    let label = words .before .before .before .before in
+    rw (label .before .before .before .before .answer .given .1) (behind _ _ _ (lays (label .append .ensures)) (words .axis-words .ensures))
 
 same-length-2 : tie.Need-same-length-2
 same-length-2 c = search needs
@@ -48,7 +55,8 @@ stick-spec =
     tie.close
     (tie.spec
     enum-known-answer
-    slice-aggregate-axis-words
+    slice-aggregate-append
+    append-requires
     axis-words-requires
     enum-told
     absent-requires

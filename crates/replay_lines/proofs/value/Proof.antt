@@ -1,13 +1,20 @@
 -- `value` prints what its definition says in each case.
 use borrow.Author.Needs.{needs}
+use Rattle.replay_words.proofs.Laws.{lays, then}
 use Rattle.replay_lines.proofs.value.Statement.{statement}
 use Rattle.replay_lines.proofs.value.Tie as tie
 
 enum-known-answer : tie.Need-enum-known-answer
 enum-known-answer c = c .match .keys1
 
-bits-requires : tie.Need-bits-requires
-bits-requires c κs = tt
+append-requires : tie.Need-append-requires
+append-requires c κs = tt
+
+bits-of-requires : tie.Need-bits-of-requires
+bits-of-requires c κs = tt
+
+hex-requires : tie.Need-hex-requires
+hex-requires c κs = tt
 
 enum-told : tie.Need-enum-told
 enum-told c = c .match .keys2
@@ -25,7 +32,10 @@ same-length : tie.Need-same-length
 same-length c = search needs
 
 returns : tie.Need-returns
-returns c = rw (c .before .before .before .before .before .answer .given .1) (c .before .before .bits .ensures)
+returns c =
+    let digits = c .before .before in
+    let label = digits .before .before .before .before .before in
+    rw (label .before .before .before .answer .given .1, ← digits .before .bits-of .ensures) (then _ _ (lays (label .append .ensures)) (digits .hex .ensures))
 
 same-length-2 : tie.Need-same-length-2
 same-length-2 c = search needs
@@ -44,7 +54,9 @@ value-spec =
     tie.close
     (tie.spec
     enum-known-answer
-    bits-requires
+    append-requires
+    bits-of-requires
+    hex-requires
     enum-told
     absent-requires
     enum-known-answer-2
