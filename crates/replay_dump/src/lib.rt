@@ -1,5 +1,5 @@
-// The dump of the oracle's scenario form (`oracle/README.md`): everything that the pads' state holds, of a hub that is lent. Each function appends to a text at a place
-// and answers the next place; it prints the pieces of its definition in `specs/Dump.antt`, each where the text has room for it, whatever the hub holds.
+// The dump of the oracle's scenario form (`oracle/README.md`): everything that the pads' state holds, of a hub that is lent. Each function appends to a text at
+// a place and answers the next place; it prints the pieces of its definition in `specs/Dump.antt`, each where the text has room for it, whatever the hub holds.
 use columns::Marks;
 use columns::Times;
 use columns::Values;
@@ -65,7 +65,8 @@ fn buttons(
 ) -> usize
     requires { ⌜ p < padLimit ⌝ }
     ensures { λ r. ⌜ written (now (text .exit)) r
-        ≡ laidAll (law.buttonLines (now (codes .entry)) (now (hasbutton .entry)) (buttonsOf (now (values .entry)) (now (times .entry)) (now (marks .entry))) p placesPerPad)
+        ≡ laidAll (law.buttonLines (now (codes .entry)) (now (hasbutton .entry))
+        (buttonsOf (now (values .entry)) (now (times .entry)) (now (marks .entry))) p placesPerPad)
         (written (now (text .entry)) at) ⌝ }
 {
     let mut next = at;

@@ -1,5 +1,5 @@
-// The lines of what the operations of the oracle's scenario form (`oracle/README.md`) answer. Each function appends to a buffer at a place and answers the next place;
-// it prints the pieces of its definition in `specs/Lines.antt`, each where the buffer has room for it, for every answer and every buffer.
+// The lines of what the operations of the oracle's scenario form (`oracle/README.md`) answer. Each function appends to a buffer at a place and answers the next
+// place; it prints the pieces of its definition in `specs/Lines.antt`, each where the buffer has room for it, for every answer and every buffer.
 use lines::NEWLINE;
 use lines::SPACE;
 use replay_answers::Asked;
@@ -17,8 +17,8 @@ use rules::ValueAnswer;
 ghost use mathlib.Core.Path.{_≡_};
 ghost use mathlib.Core.List.{[], _∷_};
 ghost use Rattle.rules.specs.Answers.{bit};
-ghost use Rattle.replay_words.specs.Pieces.{written, laidAll, labelled};
 ghost use Rattle.lines.specs.Letters.{newline};
+ghost use Rattle.replay_words.specs.Pieces.{written, laidAll, labelled};
 ghost use Rattle.replay_lines.specs.Lines as law;
 ghost use Rattle.replay_lines.specs.Lines.{queryPieces, callPieces};
 
@@ -26,7 +26,7 @@ ghost use Rattle.replay_lines.specs.Lines.{queryPieces, callPieces};
 
 // What is no operation of the form.
 fn none(text: &mut [u8], at: usize) -> usize
-    ensures { λ r. ⌜ written (now (text .exit)) r ≡ laidAll (law.noOperation) (written (now (text .entry)) at) ⌝ }
+    ensures { λ r. ⌜ written (now (text .exit)) r ≡ laidAll law.noOperation (written (now (text .entry)) at) ⌝ }
 {
     lines::append(text, at, b"NO OPERATION\n")
 }
@@ -38,7 +38,7 @@ fn refused(text: &mut [u8], at: usize, number: u8) -> usize
 }
 
 fn absent(text: &mut [u8], at: usize) -> usize
-    ensures { λ r. ⌜ written (now (text .exit)) r ≡ laidAll (law.absent) (written (now (text .entry)) at) ⌝ }
+    ensures { λ r. ⌜ written (now (text .exit)) r ≡ laidAll law.absent (written (now (text .entry)) at) ⌝ }
 {
     lines::append(text, at, b"ABSENT\n")
 }
@@ -229,7 +229,7 @@ pub fn query_line(text: &mut [u8], at: usize, answer: Asked) -> usize
     }
 }
 
-// The events of a pump stand in the out buffer.
+// The lines of an operation that changes it; the events of a pump stand in the out buffer.
 pub fn call_lines(text: &mut [u8], at: usize, out: &[u8], answer: Changed) -> usize
     ensures { λ r. ⌜ written (now (text .exit)) r ≡ laidAll (callPieces (now (out .entry)) answer) (written (now (text .entry)) at) ⌝ }
 {

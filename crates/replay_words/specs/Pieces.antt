@@ -1,5 +1,5 @@
--- What it is to print pieces one after the other into a lent buffer: where the buffer has a piece's room, its text is laid behind what stands there; where it has
--- not, nothing of it is written and the next piece is tried at the same place. Definitions only.
+-- What it is to print pieces one after the other into a lent buffer: where the buffer has a piece's room, its text is laid behind what stands there; where it
+-- has not, nothing of it is written and the next piece is tried at the same place. Definitions only.
 use Prim.Native.Nat.{ℕ, _+_, _*_}
 use mathlib.Core.Bool.{cond}
 use mathlib.Core.List.{List, [], _∷_, _++_}

@@ -1,5 +1,5 @@
-// The words that more than one of replay's crates prints (`oracle/README.md`). Each function appends to a buffer at a place and answers the next place; it prints
-// the pieces of its definition in `specs/Words.antt`, each where the buffer has room for it.
+// The words of a pad's records, which replay's lines and its dump print (`oracle/README.md`). Each function appends to a buffer at a place and answers the next
+// place; it prints the pieces of its definition in `specs/Words.antt`, each where the buffer has room for it.
 use lines::NEWLINE;
 use lines::SPACE;
 use rules::AxisData;

@@ -13,7 +13,8 @@ use Rattle.replay_dump.proofs.buttons.Tie as tie
 
 abbrev Inv-loop : tie.InvT-loop
 Inv-loop codes hasbutton values times marks text₀ at p next₀ i₀ text next i =
-    (i ≤ 52) × (length text ≡ length text₀) × (written text next ≡ laidAll (buttonLines codes hasbutton (buttonsOf values times marks) p i) (written text₀ at))
+    (i ≤ 52) × (length text ≡ length text₀)
+    × (written text next ≡ laidAll (buttonLines codes hasbutton (buttonsOf values times marks) p i) (written text₀ at))
 
 abbrev μ-loop : tie.MeasureT-loop
 μ-loop codes hasbutton values times marks text₀ at p next₀ i₀ text next i = 52 - i
@@ -46,12 +47,15 @@ loop-less c = omega arith
 loop-again : tie.Need-loop-again Inv-loop μ-loop
 loop-again c =
     let printed = c .before .before in
-    let k = printed .before .before .before .before .before .place in
-    let l = printed .before .before .before .before .before .before .before .loop in (
+    let code = printed .before in
+    let known = code .before in
+    let read = known .before .before in
+    let found = read .before in
+    let l = found .before .before .loop in (
       omega arith,
       omega arith,
       one-more _ _ _ (l .inv .2)
-          (rw (← k .ensures, ← printed .before .code-at .ensures, ← printed .before .before .bool-at .ensures, ← printed .before .before .before .before .button-at .ensures) (printed .button .ensures)),
+          (rw (← found .place .ensures, ← code .code-at .ensures, ← known .bool-at .ensures, ← read .button-at .ensures) (printed .button .ensures)),
     )
 
 same-length : tie.Need-same-length Inv-loop μ-loop

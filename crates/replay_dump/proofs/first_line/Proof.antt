@@ -38,8 +38,9 @@ unfolding firstLine
 returns c s t =
     let hats = c .before .before in
     let connected = hats .before .before .before .before .before in
+    let label = connected .before .before .before .before .before .before .before .before in
     rw (← connected .before .before .before .pad-bool .ensures, ← connected .before .before .bit .ensures, ← hats .before .hats .ensures s t)
-    (then _ _ (then _ _ (lays (connected .before .before .before .before .before .before .before .before .labelled .ensures)) (connected .number .ensures)) (hats .number2 .ensures))
+    (then _ _ (then _ _ (lays (label .labelled .ensures)) (connected .number .ensures)) (hats .number2 .ensures))
 
 pub first-line-spec : {M : Type 1} → statement M
 first-line-spec =

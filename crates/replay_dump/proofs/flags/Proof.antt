@@ -55,10 +55,11 @@ loop-less c = omega arith
 loop-again : tie.Need-loop-again Inv-loop μ-loop
 loop-again c =
     let printed = c .before .before in
+    let shown = printed .before .before in
     let l = printed .before .before .before .before .before .before .loop in (
       omega arith,
       omega arith,
-      one-more _ _ _ (l .inv .2) (rw (← printed .before .before .before .flag-at .ensures, ← printed .before .before .digit .ensures) (lays (printed .append2 .ensures))),
+      one-more _ _ _ (l .inv .2) (rw (← shown .before .flag-at .ensures, ← shown .digit .ensures) (lays (printed .append2 .ensures))),
     )
 
 slice-aggregate-append-3 : tie.Need-slice-aggregate-append-3 Inv-loop μ-loop
@@ -74,7 +75,8 @@ returns : tie.Need-returns Inv-loop μ-loop
 returns c =
     let l = c .before .before .before .before .before .before .loop in
     let all : l .i ≡ 6 = omega arith in
-    then _ _ (behind _ _ _ (lays (c .before .before .before .before .before .before .before .before .before .append .ensures)) (rw all at (l .inv .2))) (c .before .before .append3 .ensures)
+    let label = lays (c .before .before .before .before .before .before .before .before .before .append .ensures) in
+    then _ _ (behind _ _ _ label (rw all at (l .inv .2))) (c .before .before .append3 .ensures)
 
 pub flags-spec : {M : Type 1} → statement M
 flags-spec =

@@ -31,7 +31,9 @@ returns-2 c =
     let words = c .before .before in
     let code = words .before .before .before .before in
     let label = code .before .before .before .before in
-    rw (not-false (label .before .before .before .before .before .args .known) (label .before .before .before .if1 .left)) (behind _ _ _ (then _ _ (lays (label .append .ensures)) (code .hex .ensures)) (words .axis-words .ensures))
+    let other = label .before .before .before in
+    rw (not-false (other .before .before .args .known) (other .if1 .left))
+    (behind _ _ _ (then _ _ (lays (label .append .ensures)) (code .hex .ensures)) (words .axis-words .ensures))
 
 pub stick-spec : {M : Type 1} → statement M
 stick-spec =

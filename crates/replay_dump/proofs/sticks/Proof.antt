@@ -46,12 +46,15 @@ loop-less c = omega arith
 loop-again : tie.Need-loop-again Inv-loop μ-loop
 loop-again c =
     let printed = c .before .before in
-    let k = printed .before .before .before .before .before .place in
-    let l = printed .before .before .before .before .before .before .before .loop in (
+    let code = printed .before in
+    let known = code .before in
+    let read = known .before .before in
+    let found = read .before in
+    let l = found .before .before .loop in (
       omega arith,
       omega arith,
       one-more _ _ _ (l .inv .2)
-          (rw (← k .ensures, ← printed .before .code-at .ensures, ← printed .before .before .bool-at .ensures, ← printed .before .before .before .before .axis-at .ensures) (printed .stick .ensures)),
+          (rw (← found .place .ensures, ← code .code-at .ensures, ← known .bool-at .ensures, ← read .axis-at .ensures) (printed .stick .ensures)),
     )
 
 same-length : tie.Need-same-length Inv-loop μ-loop

@@ -76,7 +76,8 @@ returns-4 c =
     let numbers = c .before .before in
     let refusal = numbers .before .before .before .before in
     let events = refusal .before .before .before .before .before in
-    rw (events .before .before .before .answer4 .given .1) (behind _ _ _ (then _ _ (lays (events .lines .ensures)) (refusal .labelled .ensures)) (numbers .stopped .ensures))
+    let said = events .before .before .before .answer4 in
+    rw (said .given .1) (behind _ _ _ (then _ _ (lays (events .lines .ensures)) (refusal .labelled .ensures)) (numbers .stopped .ensures))
 
 pub pumped-spec : {M : Type 1} → statement M
 pumped-spec =
