@@ -1,5 +1,6 @@
--- What an operation that sends events or counts answers, the hub after it and every byte of the out buffer, by its number and its payload: pump, update, insert,
--- inc and reset counter of the table of `oracle/README.md`. Any other number, and a pump's payload that is too short, is `Nothing` and leaves both. Definitions only.
+-- What an operation that sends events or counts answers, the hub after it and every byte of the out buffer, by its number and its payload: pump, update,
+-- insert, inc and reset counter of the table of `oracle/README.md`. Any other number, and a pump's payload that is too short, is `Nothing` and leaves both.
+-- Definitions only.
 use Prim.Native.Nat.{ℕ, min}
 use mathlib.Core.Bool.{Bool, cond, _||_}
 use mathlib.Core.List.{List, _++_}

@@ -1,5 +1,5 @@
--- What an operation that leaves the hub as it is answers, by its number and its payload: Repeat, the counter and the queries of the table of `oracle/README.md`.
--- `Nothing` for any other number, and for a payload of another length. Definitions only.
+-- What an operation that leaves the hub as it is answers, by its number and its payload: Repeat, the counter and the queries of the table of
+-- `oracle/README.md`. `Nothing` for any other number, and for a payload of another length. Definitions only.
 use Prim.Native.Nat.{ℕ}
 use mathlib.Core.Bool.{cond, _&&_}
 use mathlib.Core.List.{List}

@@ -1,6 +1,6 @@
-// The operations of the oracle's scenario form (`oracle/README.md`) that leave the hub as it is, played on a hub that is lent: the queries and Repeat. Proved: each
-// answers what its row of the table says (specs/Asked.antt), at the hub that head and arrays stand for, for every opcode and payload, and whatever the arrays hold
-// that are not lent. By the calls' own contracts: a function here only picks the call and reads its numbers off the payload.
+// The operations of the oracle's scenario form (`oracle/README.md`) that leave the hub as it is, played on a hub that is lent: the queries and Repeat. Proved:
+// each answers what its row of the table says (specs/Asked.antt), at the hub that head and arrays stand for, for every opcode and payload, and whatever the
+// arrays hold that are not lent. By the calls' own contracts: a function here only picks the call and reads its numbers off the payload.
 ghost use mathlib.Core.Path.{_≡_};
 ghost use mathlib.Core.Bool.{Bool};
 ghost use mathlib.Core.List.{List};

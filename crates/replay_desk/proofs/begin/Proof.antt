@@ -38,13 +38,14 @@ tell-requires-2 c κs = search needs
 returns-2 : tie.Need-returns-2
 unfolding begunOf
 returns-2 c =
+    let read = c .before .before .before .before .before .before .before .before .before .before .before .before .before .before in
     told-is _ _ _ (c .tell2 .ensures)
     ∙ rw (
-      eq-eqb _ _ (c .before .before .before .before .before .before .before .before .before .before .before .before .before .before .before .before .before .before .before .if1 .left),
-      ← c .before .before .before .before .before .before .before .before .before .before .before .before .before .before .before .before .before .read4 .ensures,
-      ← c .before .before .before .before .before .before .before .before .before .before .before .before .before .before .before .before .of-bits .ensures,
-      ← c .before .before .before .before .before .before .before .before .before .before .before .before .before .before .before .read42 .ensures,
-      ← c .before .before .before .before .before .before .before .before .before .before .before .before .before .before .of-bits2 .ensures,
+      eq-eqb _ _ (read .before .before .before .before .before .if1 .left),
+      ← read .before .before .before .read4 .ensures,
+      ← read .before .before .of-bits .ensures,
+      ← read .before .read42 .ensures,
+      ← read .of-bits2 .ensures,
     )
     (ap begun (c .before .before .new-hub .ensures))
 

@@ -12,7 +12,9 @@ begin-requires c κs = search needs
 
 returns : tie.Need-returns
 unfolding setUpOf
-returns c = rw (eq-eqb _ _ (c .before .before .before .before .before .before .before .before .before .before .before .before .if1 .taken)) (c .begin .ensures)
+returns c =
+    let row = c .before .before .before .before .before .before .before .before .before .before .before .before in
+    rw (eq-eqb _ _ (row .if1 .taken)) (c .begin .ensures)
 
 register-requires : tie.Need-register-requires
 register-requires c κs = search needs
@@ -20,7 +22,8 @@ register-requires c κs = search needs
 returns-2 : tie.Need-returns-2
 unfolding setUpOf
 returns-2 c =
-    rw (ne-eqb _ _ (c .before .before .before .before .before .before .before .before .before .if1 .left), eq-eqb _ _ (c .before .before .before .before .before .before .before .before .if2 .taken)) (c .register .ensures _ _ _ _)
+    let row = c .before .before .before .before .before .before .before .before in
+    rw (ne-eqb _ _ (row .before .if1 .left), eq-eqb _ _ (row .if2 .taken)) (c .register .ensures _ _ _ _)
 
 rename-requires : tie.Need-rename-requires
 rename-requires c κs = search needs
@@ -28,11 +31,8 @@ rename-requires c κs = search needs
 returns-3 : tie.Need-returns-3
 unfolding setUpOf
 returns-3 c =
-    rw (
-      ne-eqb _ _ (c .before .before .before .before .before .before .if1 .left),
-      ne-eqb _ _ (c .before .before .before .before .before .if2 .left),
-      eq-eqb _ _ (c .before .before .before .before .if3 .taken),
-    )
+    let row = c .before .before .before .before in
+    rw (ne-eqb _ _ (row .before .before .if1 .left), ne-eqb _ _ (row .before .if2 .left), eq-eqb _ _ (row .if3 .taken))
     (c .rename .ensures _ _ _ _ _ _ _ _)
 
 tell-requires : tie.Need-tell-requires

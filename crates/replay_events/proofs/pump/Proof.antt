@@ -1,5 +1,5 @@
--- `replay_events::pump` meets its contract: by the payload's length. The numbers given on are those read off the payload, the batch is what stands behind them, and the
--- part of the out buffer that is lent comes back before the rest.
+-- `replay_events::pump` meets its contract: by the payload's length. The numbers given on are those read off the payload, the batch is what stands behind
+-- them, and the part of the out buffer that is lent comes back before the rest.
 use mathlib.Core.Path.{_∙_, sym, ap}
 use native.Mathlib.Omega.{arith}
 use lib.Seq.{length-take-le}
@@ -64,14 +64,15 @@ same-length c = search needs
 returns-2 : tie.Need-returns-2
 unfolding pumpedOf
 returns-2 c =
+    let sized = c .before .before .before .before .before .before .before .before .before .before .before .before .before .before .before in
     ap (sent _) (told-is _ _ _ (c .tell2 .ensures))
     ∙ rw (
-      le-ltb _ _ (c .before .before .before .before .before .before .before .before .before .before .before .before .before .before .before .before .before .before .if1 .left),
-      ← c .before .before .before .before .before .before .before .before .before .before .before .before .before .before .before .before .before .read4 .ensures,
-      ← c .before .before .before .before .before .before .before .before .before .before .before .before .before .before .before .before .read42 .ensures,
-      ← c .before .before .before .before .before .before .before .before .before .before .before .before .before .before .before .least .ensures,
+      le-ltb _ _ (sized .before .before .before .if1 .left),
+      ← sized .before .before .read4 .ensures,
+      ← sized .before .read42 .ensures,
+      ← sized .least .ensures,
       ← c .before .before .before .before .before .read2 .ensures,
-      ← behind 10 (c .before .before .before .before .before .before .before .before .before .before .before .before .before .before .before .before .before .before .before .before .before .args .payload .now),
+      ← behind 10 (sized .before .before .before .before .before .before .args .payload .now),
     )
     (ap (pumped _) (c .before .before .before .before .pump .ensures))
 

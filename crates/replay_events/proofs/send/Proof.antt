@@ -14,7 +14,9 @@ same-length c = search needs
 
 returns : tie.Need-returns
 unfolding sentOf
-returns c = rw (eq-eqb _ _ (c .before .before .before .before .before .before .before .before .before .before .before .if1 .taken)) (c .before .before .pump .ensures)
+returns c =
+    let row = c .before .before .before .before .before .before .before .before .before .before .before in
+    rw (eq-eqb _ _ (row .if1 .taken)) (c .before .before .pump .ensures)
 
 update-requires : tie.Need-update-requires
 update-requires c κs = search needs
@@ -22,7 +24,8 @@ update-requires c κs = search needs
 returns-2 : tie.Need-returns-2
 unfolding sentOf
 returns-2 c =
-    rw (ne-eqb _ _ (c .before .before .before .before .before .before .before .if1 .left), eq-eqb _ _ (c .before .before .before .before .before .before .if2 .taken)) (ap (sent _) (c .update .ensures _ _ _ _ _))
+    let row = c .before .before .before .before .before .before in
+    rw (ne-eqb _ _ (row .before .if1 .left), eq-eqb _ _ (row .if2 .taken)) (ap (sent _) (c .update .ensures _ _ _ _ _))
 
 insert-requires : tie.Need-insert-requires
 insert-requires c κs = search needs
@@ -30,11 +33,8 @@ insert-requires c κs = search needs
 returns-3 : tie.Need-returns-3
 unfolding sentOf
 returns-3 c =
-    rw (
-      ne-eqb _ _ (c .before .before .before .before .before .before .before .if1 .left),
-      ne-eqb _ _ (c .before .before .before .before .before .before .if2 .left),
-      eq-eqb _ _ (c .before .before .before .before .before .if3 .taken),
-    )
+    let row = c .before .before .before .before .before in
+    rw (ne-eqb _ _ (row .before .before .if1 .left), ne-eqb _ _ (row .before .if2 .left), eq-eqb _ _ (row .if3 .taken))
     (ap (sent _) (c .insert .ensures _ _ _ _ _ _))
 
 count-requires : tie.Need-count-requires

@@ -23,7 +23,9 @@ of-head-requires-2 : tie.Need-of-head-requires-2
 of-head-requires-2 c κs = search needs
 
 returns-3 : tie.Need-returns-3
-returns-3 c queuebytes queuecodes = rw (above _ _ _ (c .before .before .before .if1 .left) (c .before .before .if2 .left) (c .before .if3 .taken)) (c .of-head2 .ensures _ _)
+returns-3 c queuebytes queuecodes =
+    let row = c .before in
+    rw (above _ _ _ (row .before .before .if1 .left) (row .before .if2 .left) (row .if3 .taken)) (c .of-head2 .ensures _ _)
 
 shared-slice-read-by-code : tie.Need-shared-slice-read-by-code
 shared-slice-read-by-code c = search needs
@@ -37,10 +39,11 @@ by-code-requires c κs = search needs
 returns-4 : tie.Need-returns-4
 unfolding queried
 returns-4 c queuebytes queuecodes =
+    let row = c .before .before .before in
     rw (
-      between _ _ _ (c .before .before .before .before .before .before .if1 .left) (c .before .before .before .before .before .if2 .left) (c .before .before .before .before .if3 .left),
+      between _ _ _ (row .before .before .before .if1 .left) (row .before .before .if2 .left) (row .before .if3 .left),
       queried,
-      eq-eqb _ _ (c .before .before .before .if4 .taken),
+      eq-eqb _ _ (row .if4 .taken),
       ← c .before .read4 .ensures,
     )
     (c .by-code .ensures queuebytes queuecodes)
@@ -57,11 +60,12 @@ by-name-requires c κs = search needs
 returns-5 : tie.Need-returns-5
 unfolding queried
 returns-5 c queuebytes queuecodes =
+    let row = c .before .before .before in
     rw (
-      between _ _ _ (c .before .before .before .before .before .before .before .if1 .left) (c .before .before .before .before .before .before .if2 .left) (c .before .before .before .before .before .if3 .left),
+      between _ _ _ (row .before .before .before .before .if1 .left) (row .before .before .before .if2 .left) (row .before .before .if3 .left),
       queried,
-      ne-eqb _ _ (c .before .before .before .before .if4 .left),
-      eq-eqb _ _ (c .before .before .before .if5 .taken),
+      ne-eqb _ _ (row .before .if4 .left),
+      eq-eqb _ _ (row .if5 .taken),
     )
     (c .by-name .ensures _ queuebytes queuecodes)
 

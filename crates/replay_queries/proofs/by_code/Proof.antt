@@ -12,7 +12,8 @@ axis-or-btn-name-requires c κs = search needs
 
 returns : tie.Need-returns
 unfolding byCode
-returns c queuebytes queuecodes = rw (eq-eqb _ _ (c .before .if1 .taken)) (ap asked.Name (c .axis-or-btn-name .ensures _ _ queuebytes queuecodes _ _ _ _))
+returns c queuebytes queuecodes =
+    rw (eq-eqb _ _ (c .before .if1 .taken)) (ap asked.Name (c .axis-or-btn-name .ensures _ _ queuebytes queuecodes _ _ _ _))
 
 deadzone-threshold-requires : tie.Need-deadzone-threshold-requires
 deadzone-threshold-requires c κs = search needs

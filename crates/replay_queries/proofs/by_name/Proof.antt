@@ -1,5 +1,5 @@
 -- `replay_queries::by_name` meets its contract: row by row, what the queries ensure.
-use mathlib.Core.Path.{refl, ap}
+use mathlib.Core.Path.{ap}
 use Rattle.replay_answers.specs.declared.Asked.the-variants as asked
 use borrow.Author.Tests.{eq-eqb, ne-eqb}
 use Rattle.replay_queries.specs.Asked.{byName}
@@ -12,7 +12,8 @@ is-pressed-requires c κs = search needs
 
 returns : tie.Need-returns
 unfolding byName
-returns c kinds queuebytes queuecodes = rw (eq-eqb _ _ (c .before .if1 .taken)) (ap asked.Pressed (c .is-pressed .ensures kinds queuebytes queuecodes _))
+returns c kinds queuebytes queuecodes =
+    rw (eq-eqb _ _ (c .before .if1 .taken)) (ap asked.Pressed (c .is-pressed .ensures kinds queuebytes queuecodes _))
 
 value-requires : tie.Need-value-requires
 value-requires c κs = search needs

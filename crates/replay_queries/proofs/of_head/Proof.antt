@@ -1,5 +1,5 @@
 -- `replay_queries::of_head` meets its contract: row by row, what the calls ensure.
-use mathlib.Core.Path.{refl, ap}
+use mathlib.Core.Path.{ap}
 use Rattle.replay_answers.specs.declared.Asked.the-variants as asked
 use borrow.Author.Tests.{eq-eqb, ne-eqb}
 use Rattle.replay_queries.specs.Asked.{ofHead}
@@ -12,7 +12,8 @@ counter-requires c κs = search needs
 
 returns : tie.Need-returns
 unfolding ofHead
-returns c s t = rw (eq-eqb _ _ (c .before .if1 .taken)) (ap asked.Counter (c .counter .ensures s t))
+returns c s t =
+    rw (eq-eqb _ _ (c .before .if1 .taken)) (ap asked.Counter (c .counter .ensures s t))
 
 stands-requires : tie.Need-stands-requires
 stands-requires c κs = search needs

@@ -1,5 +1,5 @@
 -- `replay_queries::state_by_code` meets its contract: row by row, what the queries ensure.
-use mathlib.Core.Path.{refl, ap}
+use mathlib.Core.Path.{ap}
 use Rattle.replay_answers.specs.declared.Asked.the-variants as asked
 use borrow.Author.Tests.{eq-eqb, ne-eqb}
 use Rattle.replay_queries.specs.Asked.{stateByCode}
@@ -12,7 +12,8 @@ is-pressed-by-code-requires c κs = search needs
 
 returns : tie.Need-returns
 unfolding stateByCode
-returns c kinds names renames queuebytes queuecodes = rw (eq-eqb _ _ (c .before .if1 .taken)) (ap asked.Pressed (c .is-pressed-by-code .ensures kinds names renames queuebytes queuecodes _))
+returns c kinds names renames queuebytes queuecodes =
+    rw (eq-eqb _ _ (c .before .if1 .taken)) (ap asked.Pressed (c .is-pressed-by-code .ensures kinds names renames queuebytes queuecodes _))
 
 value-by-code-requires : tie.Need-value-by-code-requires
 value-by-code-requires c κs = search needs
