@@ -26,10 +26,9 @@ repeat-requires c κs = search needs
 returns-2 : tie.Need-returns-2
 unfolding repeated
 returns-2 c kinds queuebytes queuecodes hasaxis =
-    let read = c .before .before .before in
     rw (
-      eq-eqb _ _ (read .before .if1 .left),
-      ← read .read8 .ensures,
+      eq-eqb _ _ (c .before .before .before .before .if1 .left),
+      ← c .before .before .before .read8 .ensures,
       ← c .before .before .read82 .ensures,
       ← c .before .read83 .ensures,
     )
