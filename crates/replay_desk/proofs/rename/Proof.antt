@@ -37,9 +37,11 @@ tell-requires-2 c κs = search needs
 returns-2 : tie.Need-returns-2
 unfolding renamedOf
 returns-2 c names times queuebytes queuecodes hasbutton hasaxis marks values =
-    let long = c .before .before .before .before .before .before in
     told-is _ _ _ (c .tell2 .ensures)
-    ∙ rw (le-ltb _ _ (long .if1 .left), ← behind 1 (long .before .before .args .payload .now))
+    ∙ rw (
+      le-ltb _ _ (c .before .before .before .before .before .before .if1 .left),
+      ← behind 1 (c .before .before .before .before .before .before .before .before .args .payload .now),
+    )
     (ap renamed (c .before .before .rename .ensures names times queuebytes queuecodes hasbutton hasaxis marks values))
 
 pub rename-spec : {M : Type 1} → statement M
