@@ -1,4 +1,11 @@
-// One operation of the oracle's scenario form (`oracle/README.md`) with its lines, by what it does to the hub: one that changes it, and one that leaves it as it is.
+// One operation of the oracle's scenario form (`oracle/README.md`) with its lines, by what it does to the hub: one that changes it, and one that leaves it as
+// it is. Proved: which operations change the hub, and answer, hub and out buffer after one (specs/Changed.antt), by what `replay_desk` and `replay_events`
+// promise; the rest is safe and ends.
+ghost use mathlib.Core.Path.{_≡_};
+ghost use Rattle.hub.specs.Lent.{listed, columns, hubOf};
+ghost use Rattle.replay_answers.specs.Told.{told};
+ghost use Rattle.replay_events.specs.Sent.{sent};
+ghost use Rattle.replay_turns.specs.Changed.{changesOf, changedOf};
 use columns::Marks;
 use columns::QueueBytes;
 use columns::QueueCodes;
@@ -22,14 +29,20 @@ pub struct Game {
 // ---- operations that change the hub
 
 // Whether an operation changes the hub: but for `new` it needs one that stands.
-pub fn changes(stands: bool, opcode: u8) -> bool {
+pub fn changes(stands: bool, opcode: u8) -> bool
+    ensures { λ r. ⌜ r ≡ changesOf stands opcode ⌝ }
+{
     if opcode == NEW {
         return true;
     }
-    if stands {
-        return replay_desk::sets_up(opcode) || replay_events::sends(opcode);
+    if !stands {
+        return false;
     }
-    false
+    let sets = replay_desk::sets_up(opcode);
+    if sets {
+        return true;
+    }
+    replay_events::sends(opcode)
 }
 
 // An operation that changes the hub.
@@ -49,7 +62,14 @@ pub fn change(
     opcode: u8,
     payload: &[u8],
     out: &mut [u8],
-) -> Told {
+) -> Told
+    ensures { λ r. ⌜ sent (now (out .exit)) (told r (listed (now (codes .exit)) (now (kinds .exit)) (now (names .exit)) (now (renames .exit)))
+        (columns (now (hasbutton .exit)) (now (hasaxis .exit)) (now (values .exit)) (now (times .exit)) (now (marks .exit))
+        (now (queuebytes .exit)) (now (queuecodes .exit))))
+        ≡ changedOf (hubOf head (listed (now (codes .entry)) (now (kinds .entry)) (now (names .entry)) (now (renames .entry)))
+        (columns (now (hasbutton .entry)) (now (hasaxis .entry)) (now (values .entry)) (now (times .entry)) (now (marks .entry))
+        (now (queuebytes .entry)) (now (queuecodes .entry)))) opcode (now (payload .entry)) (now (out .entry)) ⌝ }
+{
     if replay_desk::sets_up(opcode) {
         return replay_desk::set_up(
             head,
