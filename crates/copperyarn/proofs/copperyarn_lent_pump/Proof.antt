@@ -1,26 +1,21 @@
+-- `copperyarn::copperyarn_lent_pump` meets its contract: the call's equation, its answer as it crosses.
 use borrow.Author.Needs.{needs}
+use mathlib.Core.Path.{ap}
+use Rattle.copperyarn.specs.Exports.{reportedOf}
 use Rattle.copperyarn.proofs.copperyarn_lent_pump.Statement.{statement}
 use Rattle.copperyarn.proofs.copperyarn_lent_pump.Tie as tie
-use Rattle.copperyarn.proofs.copperyarn_lent_pump.Reads as reads
-use Rattle.copperyarn.proofs.copperyarn_lent_pump.Lts as lts
-use Rattle.crossing.proofs.report_of.Reads as report-of-reads
-use Rattle.pump.proofs.pump.Reads as pump-reads
 
--- src/lib.rt:173:9
 pump-requires : tie.Need-pump-requires
-pump-requires c κs = search needs
+pump-requires c κs = tt
 
--- src/lib.rt:195:17
 report-of-requires : tie.Need-report-of-requires
-report-of-requires c κs = search needs
+report-of-requires c κs = tt
 
--- src/lib.rt:148:1
 same-length : tie.Need-same-length
 same-length c = search needs
 
--- src/lib.rt:148:1
 returns : tie.Need-returns
-returns c = ?
+returns c = rw (c .report-of .ensures) (ap reportedOf (c .before .before .before .before .pump .ensures))
 
 pub copperyarn-lent-pump-spec : {M : Type 1} → statement M
 copperyarn-lent-pump-spec =

@@ -1,22 +1,17 @@
-use borrow.Author.Needs.{needs}
+-- `copperyarn::copperyarn_lent_register` meets its contract: the call's equation, its answer as it crosses.
+use mathlib.Core.Path.{ap}
+use Rattle.copperyarn.specs.Exports.{enrolledOf}
 use Rattle.copperyarn.proofs.copperyarn_lent_register.Statement.{statement}
 use Rattle.copperyarn.proofs.copperyarn_lent_register.Tie as tie
-use Rattle.copperyarn.proofs.copperyarn_lent_register.Reads as reads
-use Rattle.copperyarn.proofs.copperyarn_lent_register.Lts as lts
-use Rattle.crossing.proofs.pad_of.Reads as pad-of-reads
-use Rattle.desk.proofs.register.Reads as register-reads
 
--- src/lib.rt:100:9
 register-requires : tie.Need-register-requires
-register-requires c κs = search needs
+register-requires c κs = tt
 
--- src/lib.rt:115:14
 pad-of-requires : tie.Need-pad-of-requires
-pad-of-requires c κs = search needs
+pad-of-requires c κs = tt
 
--- src/lib.rt:81:1
 returns : tie.Need-returns
-returns c = ?
+returns c renames times queuebytes queuecodes = rw (c .pad-of .ensures) (ap enrolledOf (c .before .before .register .ensures renames times queuebytes queuecodes))
 
 pub copperyarn-lent-register-spec : {M : Type 1} → statement M
 copperyarn-lent-register-spec = tie.close (tie.spec register-requires pad-of-requires returns)

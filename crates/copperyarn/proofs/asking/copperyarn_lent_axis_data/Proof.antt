@@ -1,22 +1,17 @@
-use borrow.Author.Needs.{needs}
+-- `copperyarn::copperyarn_lent_axis_data` meets its contract: the query's equation, its answer as it crosses.
+use mathlib.Core.Path.{ap}
+use Rattle.crossing.specs.Crossing.{axisOf}
 use Rattle.copperyarn.proofs.asking.copperyarn_lent_axis_data.Statement.{statement}
 use Rattle.copperyarn.proofs.asking.copperyarn_lent_axis_data.Tie as tie
-use Rattle.copperyarn.proofs.asking.copperyarn_lent_axis_data.Reads as reads
-use Rattle.copperyarn.proofs.asking.copperyarn_lent_axis_data.Lts as lts
-use Rattle.crossing.proofs.axis_of.Reads as axis-of-reads
-use Rattle.queries.proofs.axis_data.Reads as axis-data-reads
 
--- src/asking.rt:235:23
 axis-data-requires : tie.Need-axis-data-requires
-axis-data-requires c κs = search needs
+axis-data-requires c κs = tt
 
--- src/asking.rt:235:5
 axis-of-requires : tie.Need-axis-of-requires
-axis-of-requires c κs = search needs
+axis-of-requires c κs = tt
 
--- src/asking.rt:220:1
 returns : tie.Need-returns
-returns c = ?
+returns c codes kinds queuebytes queuecodes hasbutton marks = rw (c .axis-of .ensures) (ap axisOf (c .before .axis-data .ensures codes kinds queuebytes queuecodes hasbutton marks))
 
 pub copperyarn-lent-axis-data-spec : {M : Type 1} → statement M
 copperyarn-lent-axis-data-spec = tie.close (tie.spec axis-data-requires axis-of-requires returns)

@@ -1,22 +1,17 @@
-use borrow.Author.Needs.{needs}
+-- `copperyarn::copperyarn_lent_axis_data_by_code` meets its contract: the query's equation, its answer as it crosses.
+use mathlib.Core.Path.{ap}
+use Rattle.crossing.specs.Crossing.{axisOf}
 use Rattle.copperyarn.proofs.asking.copperyarn_lent_axis_data_by_code.Statement.{statement}
 use Rattle.copperyarn.proofs.asking.copperyarn_lent_axis_data_by_code.Tie as tie
-use Rattle.copperyarn.proofs.asking.copperyarn_lent_axis_data_by_code.Reads as reads
-use Rattle.copperyarn.proofs.asking.copperyarn_lent_axis_data_by_code.Lts as lts
-use Rattle.crossing.proofs.axis_of.Reads as axis-of-reads
-use Rattle.queries.proofs.axis_data_by_code.Reads as axis-data-by-code-reads
 
--- src/asking.rt:216:23
 axis-data-by-code-requires : tie.Need-axis-data-by-code-requires
-axis-data-by-code-requires c κs = search needs
+axis-data-by-code-requires c κs = tt
 
--- src/asking.rt:216:5
 axis-of-requires : tie.Need-axis-of-requires
-axis-of-requires c κs = search needs
+axis-of-requires c κs = tt
 
--- src/asking.rt:202:1
 returns : tie.Need-returns
-returns c = ?
+returns c kinds names renames queuebytes queuecodes hasbutton marks = rw (c .axis-of .ensures) (ap axisOf (c .before .axis-data-by-code .ensures kinds names renames queuebytes queuecodes hasbutton marks))
 
 pub copperyarn-lent-axis-data-by-code-spec : {M : Type 1} → statement M
 copperyarn-lent-axis-data-by-code-spec =

@@ -1,22 +1,17 @@
-use borrow.Author.Needs.{needs}
+-- `copperyarn::copperyarn_lent_button_data` meets its contract: the query's equation, its answer as it crosses.
+use mathlib.Core.Path.{ap}
+use Rattle.crossing.specs.Crossing.{buttonOf}
 use Rattle.copperyarn.proofs.asking.copperyarn_lent_button_data.Statement.{statement}
 use Rattle.copperyarn.proofs.asking.copperyarn_lent_button_data.Tie as tie
-use Rattle.copperyarn.proofs.asking.copperyarn_lent_button_data.Reads as reads
-use Rattle.copperyarn.proofs.asking.copperyarn_lent_button_data.Lts as lts
-use Rattle.crossing.proofs.button_of.Reads as button-of-reads
-use Rattle.queries.proofs.button_data.Reads as button-data-reads
 
--- src/asking.rt:188:25
 button-data-requires : tie.Need-button-data-requires
-button-data-requires c κs = search needs
+button-data-requires c κs = tt
 
--- src/asking.rt:188:5
 button-of-requires : tie.Need-button-of-requires
-button-of-requires c κs = search needs
+button-of-requires c κs = tt
 
--- src/asking.rt:172:1
 returns : tie.Need-returns
-returns c = ?
+returns c codes kinds queuebytes queuecodes hasaxis = rw (c .button-of .ensures) (ap buttonOf (c .before .button-data .ensures codes kinds queuebytes queuecodes hasaxis))
 
 pub copperyarn-lent-button-data-spec : {M : Type 1} → statement M
 copperyarn-lent-button-data-spec =

@@ -1,24 +1,19 @@
-use borrow.Author.Needs.{needs}
+-- `copperyarn::copperyarn_lent_button_data_by_code` meets its contract: the query's equation, its answer as it crosses.
+use mathlib.Core.Path.{ap}
+use Rattle.crossing.specs.Crossing.{buttonOf}
 use Rattle.copperyarn.proofs.asking.copperyarn_lent_button_data_by_code.Statement.{
   statement,
 }
 use Rattle.copperyarn.proofs.asking.copperyarn_lent_button_data_by_code.Tie as tie
-use Rattle.copperyarn.proofs.asking.copperyarn_lent_button_data_by_code.Reads as reads
-use Rattle.copperyarn.proofs.asking.copperyarn_lent_button_data_by_code.Lts as lts
-use Rattle.crossing.proofs.button_of.Reads as button-of-reads
-use Rattle.queries.proofs.button_data_by_code.Reads as button-data-by-code-reads
 
--- src/asking.rt:159:25
 button-data-by-code-requires : tie.Need-button-data-by-code-requires
-button-data-by-code-requires c κs = search needs
+button-data-by-code-requires c κs = tt
 
--- src/asking.rt:159:5
 button-of-requires : tie.Need-button-of-requires
-button-of-requires c κs = search needs
+button-of-requires c κs = tt
 
--- src/asking.rt:144:1
 returns : tie.Need-returns
-returns c = ?
+returns c kinds names renames queuebytes queuecodes hasaxis = rw (c .button-of .ensures) (ap buttonOf (c .before .button-data-by-code .ensures kinds names renames queuebytes queuecodes hasaxis))
 
 pub copperyarn-lent-button-data-by-code-spec : {M : Type 1} → statement M
 copperyarn-lent-button-data-by-code-spec =

@@ -1,22 +1,17 @@
-use borrow.Author.Needs.{needs}
+-- `copperyarn::copperyarn_lent_code_of_name` meets its contract: the query's equation, its answer as it crosses.
+use mathlib.Core.Path.{ap}
+use Rattle.crossing.specs.Crossing.{numberOf}
 use Rattle.copperyarn.proofs.asking.copperyarn_lent_code_of_name.Statement.{statement}
 use Rattle.copperyarn.proofs.asking.copperyarn_lent_code_of_name.Tie as tie
-use Rattle.copperyarn.proofs.asking.copperyarn_lent_code_of_name.Reads as reads
-use Rattle.copperyarn.proofs.asking.copperyarn_lent_code_of_name.Lts as lts
-use Rattle.crossing.proofs.number_of.Reads as number-of-reads
-use Rattle.queries.proofs.code_of_name.Reads as code-of-name-reads
 
--- src/asking.rt:287:25
 code-of-name-requires : tie.Need-code-of-name-requires
-code-of-name-requires c κs = search needs
+code-of-name-requires c κs = tt
 
--- src/asking.rt:287:5
 number-of-requires : tie.Need-number-of-requires
-number-of-requires c κs = search needs
+number-of-requires c κs = tt
 
--- src/asking.rt:274:1
 returns : tie.Need-returns
-returns c = ?
+returns c kinds times queuebytes queuecodes hasbutton hasaxis marks values = rw (c .number-of .ensures) (ap numberOf (c .before .code-of-name .ensures kinds times queuebytes queuecodes hasbutton hasaxis marks values))
 
 pub copperyarn-lent-code-of-name-spec : {M : Type 1} → statement M
 copperyarn-lent-code-of-name-spec =

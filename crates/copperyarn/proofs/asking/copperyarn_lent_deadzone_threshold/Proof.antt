@@ -1,24 +1,19 @@
-use borrow.Author.Needs.{needs}
+-- `copperyarn::copperyarn_lent_deadzone_threshold` meets its contract: the query's equation, its answer as it crosses.
+use mathlib.Core.Path.{ap}
+use Rattle.crossing.specs.Crossing.{valueOf}
 use Rattle.copperyarn.proofs.asking.copperyarn_lent_deadzone_threshold.Statement.{
   statement,
 }
 use Rattle.copperyarn.proofs.asking.copperyarn_lent_deadzone_threshold.Tie as tie
-use Rattle.copperyarn.proofs.asking.copperyarn_lent_deadzone_threshold.Reads as reads
-use Rattle.copperyarn.proofs.asking.copperyarn_lent_deadzone_threshold.Lts as lts
-use Rattle.crossing.proofs.value_of.Reads as value-of-reads
-use Rattle.queries.proofs.deadzone_threshold.Reads as deadzone-threshold-reads
 
--- src/asking.rt:253:24
 deadzone-threshold-requires : tie.Need-deadzone-threshold-requires
-deadzone-threshold-requires c κs = search needs
+deadzone-threshold-requires c κs = tt
 
--- src/asking.rt:253:5
 value-of-requires : tie.Need-value-of-requires
-value-of-requires c κs = search needs
+value-of-requires c κs = tt
 
--- src/asking.rt:239:1
 returns : tie.Need-returns
-returns c = ?
+returns c names renames times queuebytes queuecodes hasbutton hasaxis = rw (c .value-of .ensures) (ap valueOf (c .before .deadzone-threshold .ensures names renames times queuebytes queuecodes hasbutton hasaxis))
 
 pub copperyarn-lent-deadzone-threshold-spec : {M : Type 1} → statement M
 copperyarn-lent-deadzone-threshold-spec =

@@ -1,22 +1,17 @@
-use borrow.Author.Needs.{needs}
+-- `copperyarn::copperyarn_lent_is_connected` meets its contract: the query's equation, its answer as it crosses.
+use mathlib.Core.Path.{ap}
+use Rattle.crossing.specs.Crossing.{truthOf}
 use Rattle.copperyarn.proofs.asking.copperyarn_lent_is_connected.Statement.{statement}
 use Rattle.copperyarn.proofs.asking.copperyarn_lent_is_connected.Tie as tie
-use Rattle.copperyarn.proofs.asking.copperyarn_lent_is_connected.Reads as reads
-use Rattle.copperyarn.proofs.asking.copperyarn_lent_is_connected.Lts as lts
-use Rattle.crossing.proofs.truth_of.Reads as truth-of-reads
-use Rattle.queries.proofs.is_connected.Reads as is-connected-reads
 
--- src/asking.rt:295:24
 is-connected-requires : tie.Need-is-connected-requires
-is-connected-requires c κs = search needs
+is-connected-requires c κs = tt
 
--- src/asking.rt:295:5
 truth-of-requires : tie.Need-truth-of-requires
-truth-of-requires c κs = search needs
+truth-of-requires c κs = tt
 
--- src/asking.rt:291:1
 returns : tie.Need-returns
-returns c = ?
+returns c s t = rw (c .truth-of .ensures) (ap truthOf (c .before .is-connected .ensures s t))
 
 pub copperyarn-lent-is-connected-spec : {M : Type 1} → statement M
 copperyarn-lent-is-connected-spec =

@@ -1,24 +1,19 @@
-use borrow.Author.Needs.{needs}
+-- `copperyarn::copperyarn_lent_is_pressed_by_code` meets its contract: the query's equation, its answer as it crosses.
+use mathlib.Core.Path.{ap}
+use Rattle.crossing.specs.Crossing.{truthOf}
 use Rattle.copperyarn.proofs.asking.copperyarn_lent_is_pressed_by_code.Statement.{
   statement,
 }
 use Rattle.copperyarn.proofs.asking.copperyarn_lent_is_pressed_by_code.Tie as tie
-use Rattle.copperyarn.proofs.asking.copperyarn_lent_is_pressed_by_code.Reads as reads
-use Rattle.copperyarn.proofs.asking.copperyarn_lent_is_pressed_by_code.Lts as lts
-use Rattle.crossing.proofs.truth_of.Reads as truth-of-reads
-use Rattle.queries.proofs.is_pressed_by_code.Reads as is-pressed-by-code-reads
 
--- src/asking.rt:37:24
 is-pressed-by-code-requires : tie.Need-is-pressed-by-code-requires
-is-pressed-by-code-requires c κs = search needs
+is-pressed-by-code-requires c κs = tt
 
--- src/asking.rt:37:5
 truth-of-requires : tie.Need-truth-of-requires
-truth-of-requires c κs = search needs
+truth-of-requires c κs = tt
 
--- src/asking.rt:22:1
 returns : tie.Need-returns
-returns c = ?
+returns c kinds names renames queuebytes queuecodes hasaxis = rw (c .truth-of .ensures) (ap truthOf (c .before .is-pressed-by-code .ensures kinds names renames queuebytes queuecodes hasaxis))
 
 pub copperyarn-lent-is-pressed-by-code-spec : {M : Type 1} → statement M
 copperyarn-lent-is-pressed-by-code-spec =

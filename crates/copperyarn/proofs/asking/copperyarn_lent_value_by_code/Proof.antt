@@ -1,22 +1,17 @@
-use borrow.Author.Needs.{needs}
+-- `copperyarn::copperyarn_lent_value_by_code` meets its contract: the query's equation, its answer as it crosses.
+use mathlib.Core.Path.{ap}
+use Rattle.crossing.specs.Crossing.{valueOf}
 use Rattle.copperyarn.proofs.asking.copperyarn_lent_value_by_code.Statement.{statement}
 use Rattle.copperyarn.proofs.asking.copperyarn_lent_value_by_code.Tie as tie
-use Rattle.copperyarn.proofs.asking.copperyarn_lent_value_by_code.Reads as reads
-use Rattle.copperyarn.proofs.asking.copperyarn_lent_value_by_code.Lts as lts
-use Rattle.crossing.proofs.value_of.Reads as value-of-reads
-use Rattle.queries.proofs.value_by_code.Reads as value-by-code-reads
 
--- src/asking.rt:98:24
 value-by-code-requires : tie.Need-value-by-code-requires
-value-by-code-requires c κs = search needs
+value-by-code-requires c κs = tt
 
--- src/asking.rt:98:5
 value-of-requires : tie.Need-value-of-requires
-value-of-requires c κs = search needs
+value-of-requires c κs = tt
 
--- src/asking.rt:82:1
 returns : tie.Need-returns
-returns c = ?
+returns c kinds names renames queuebytes queuecodes = rw (c .value-of .ensures) (ap valueOf (c .before .value-by-code .ensures kinds names renames queuebytes queuecodes))
 
 pub copperyarn-lent-value-by-code-spec : {M : Type 1} → statement M
 copperyarn-lent-value-by-code-spec =
