@@ -298,7 +298,7 @@ pub extern "C" fn copperyarn_lent_repeat<'s>(
 
 // ---- the counter
 
-// The head with its counter one up; at its largest it stays.
+// The head with its counter one up, and 0 after its largest.
 #[no_mangle]
 pub extern "C" fn copperyarn_lent_inc(head: Head) -> Head
     ensures { λ r. ⌜ ((s : Listed) (t : Columns) → hubOf r s t ≡ incOf (hubOf head s t)) ⌝ }

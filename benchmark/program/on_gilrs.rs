@@ -1,8 +1,10 @@
-//! Paces gilrs over a stream, in batches or singly. Of a round the calls of `next_event`, each until there is none, and
-//! the queries are timed: the hub and its mapping lines are made, and the records read, before. The records are posted
-//! between the calls, and a call may be too short for a clock of its own; so a round is timed whole, and what posting takes
-//! is timed beside it.
+//! gilrs over a stream, in batches or singly. Of a round the calls of `next_event`, each until there is none, and the
+//! queries are timed: the hub and its mapping lines are made, and the records read, before. The records are posted between
+//! the calls, and a call may be too short for a clock of its own; so a round is timed whole, and what posting takes is
+//! timed beside it.
 
+use crate::clock::processor_time;
+use crate::course::Course;
 use crate::hub::Hub;
 use crate::plan::Plan;
 use crate::stream::ALLOWANCE;
@@ -10,15 +12,11 @@ use crate::translate::{from_crate, to_raw};
 use gilrs::ev::Code;
 use gilrs::{window, Gilrs};
 use gilrs_core::Inbox;
-use reading::bytes::field;
 use reading::record::{self, Record};
 use reading::scenario::{self, Operation, Settings};
 use reading::LONGEST_BUFFER;
 use std::hint::black_box;
 use std::time::Duration;
-
-/// The number of rounds and the opening's size.
-const HEAD: usize = 8;
 
 #[derive(Default)]
 struct Counts {
@@ -40,24 +38,16 @@ enum Turn {
     Query(usize, Code),
 }
 
-pub fn pace(course: &[u8]) {
-    let rounds = field(course, 0, 4);
-    let start = HEAD + field(course, 4, 4) as usize;
-    let opening = scenario::read(&course[HEAD..start]).expect("operations");
-    let round = scenario::read(&course[start..]).expect("operations");
-    let settings = match opening[0] {
-        Operation::New(settings) => settings,
-        _ => panic!("a course opens with `new`"),
-    };
-    let plan = Plan::of(&opening[1..]);
-    let turns: Vec<Turn> = round.iter().map(|operation| turn(operation, &plan)).collect();
+pub fn pace(course: &Course<'_>) {
+    let plan = Plan::of(&course.opening);
+    let turns: Vec<Turn> = course.round.iter().map(|operation| turn(operation, &plan)).collect();
     let mut counts = Counts::default();
     let mut events = Vec::with_capacity(LONGEST_BUFFER);
     let inbox = Inbox::default();
     gilrs_core::Gilrs::prepare(plan.gamepads(), inbox.clone());
     let mut backend = gilrs_core::Gilrs::new().expect("a prepared backend");
-    for _ in 0..rounds {
-        play(&settings, &plan, &turns, &mut counts, &mut events);
+    for _ in 0..course.rounds {
+        play(&course.settings, &plan, &turns, &mut counts, &mut events);
         stand_in(&inbox, &mut backend, &turns, &mut counts);
     }
     println!("CALLS {}\nRECORDS {}\nEVENTS {}\nHELD {}", counts.calls, counts.records, counts.events, counts.held);
@@ -113,29 +103,7 @@ fn stand_in(inbox: &Inbox, backend: &mut gilrs_core::Gilrs, turns: &[Turn], coun
     counts.stand_in += processor_time() - begun;
 }
 
-#[repr(C)]
-struct Timespec {
-    seconds: i64,
-    nanoseconds: i64,
-}
-
-extern "C" {
-    fn clock_gettime(clock: i32, time: *mut Timespec) -> i32;
-}
-
-/// CLOCK_PROCESS_CPUTIME_ID of Linux
-const PROCESS_CLOCK: i32 = 2;
-
-/// The processor time of this process: other work on the machine does not count.
-fn processor_time() -> Duration {
-    let mut time = Timespec { seconds: 0, nanoseconds: 0 };
-    // Safety: C's clock_gettime writes one timespec, which has this layout on every 64-bit Linux.
-    let failed = unsafe { clock_gettime(PROCESS_CLOCK, &mut time) };
-    assert_eq!(failed, 0, "no processor clock");
-    Duration::new(time.seconds as u64, time.nanoseconds as u32)
-}
-
-/// One of the two parts that are measured; callgrind finds them by their names.
+/// One of the two parts that are counted, by their names.
 #[inline(never)]
 fn take_all(gilrs: &mut Gilrs, events: &mut Vec<gilrs::Event>) {
     while let Some(event) = gilrs.next_event() {

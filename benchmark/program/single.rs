@@ -47,10 +47,3 @@ pub fn asking(queries: u64) -> Vec<u8> {
     });
     played(&round)
 }
-
-/// The same batch, and then so many queries whose code is a byte short, which are read and refused: what reading an operation takes.
-pub fn cut(queries: u64) -> Vec<u8> {
-    let mut round = pump_all(&records(&mut Random::new(SEED), RECORDS));
-    (0..queries).for_each(|_| round.extend(scenario::write(scenario::PRESSED_BY_CODE, &[0; 4])));
-    played(&round)
-}
