@@ -213,10 +213,10 @@ typedef struct copperyarn_hub {
 /* The layout, held by assertions, and the library's own functions, which the calls below lend the hub's fields to. */
 #include "copperyarn_lent.h"
 
-static inline copperyarn_lent_bytes copperyarn_lend(const uint8_t *bytes, size_t size) {
+/* A pointer to lend: the library takes no NULL, not even for no bytes. */
+static inline const uint8_t *copperyarn_lend(const uint8_t *bytes, size_t size) {
     static const uint8_t none = 0;
-    copperyarn_lent_bytes lent = {size == 0 ? &none : bytes, size};
-    return lent;
+    return size == 0 ? &none : bytes;
 }
 
 /* ---- setting a desk up */
@@ -235,7 +235,7 @@ static inline uint8_t copperyarn_new(copperyarn_hub *hub, float pressed, float r
  * Answers the pad's number, or refuses 2, 3, 4, 5 in this order. */
 static inline copperyarn_pad_answer copperyarn_register(copperyarn_hub *hub, const uint8_t *sheet, size_t size) {
     copperyarn_lent_registered registered = copperyarn_lent_register(
-        hub->head, hub->codes, hub->kinds, hub->names, hub->hasbutton, hub->hasaxis, hub->values, hub->marks, copperyarn_lend(sheet, size));
+        hub->head, hub->codes, hub->kinds, hub->names, hub->hasbutton, hub->hasaxis, hub->values, hub->marks, copperyarn_lend(sheet, size), size);
     hub->head = registered.head;
     return registered.pad;
 }
@@ -243,7 +243,7 @@ static inline copperyarn_pad_answer copperyarn_register(copperyarn_hub *hub, con
 /* New names for a pad's elements, one byte for each in code order; they hold until the pad's next Connected. The pad's hats become 0.
  * Answers 0 or refuses 6, 7, 3, 4, 5 in this order. */
 static inline uint8_t copperyarn_rename(copperyarn_hub *hub, uint8_t pad, const uint8_t *names, size_t size) {
-    copperyarn_lent_done done = copperyarn_lent_rename(hub->head, hub->codes, hub->kinds, hub->renames, pad, copperyarn_lend(names, size));
+    copperyarn_lent_done done = copperyarn_lent_rename(hub->head, hub->codes, hub->kinds, hub->renames, pad, copperyarn_lend(names, size), size);
     hub->head = done.head;
     return done.refusal;
 }
@@ -255,10 +255,9 @@ static inline uint8_t copperyarn_rename(copperyarn_hub *hub, uint8_t pad, const 
 static inline copperyarn_pump_answer copperyarn_pump(
     copperyarn_hub *hub, const uint8_t *batch, size_t batch_size, size_t place, uint8_t *out, size_t out_size, uint16_t allowance) {
     uint8_t none = 0;
-    copperyarn_lent_room room = {out_size == 0 ? &none : out, out_size};
     copperyarn_lent_pumped pumped = copperyarn_lent_pump(
         hub->head, hub->codes, hub->kinds, hub->names, hub->renames, hub->hasbutton, hub->hasaxis, hub->values, hub->times, hub->marks,
-        hub->queuebytes, hub->queuecodes, copperyarn_lend(batch, batch_size), place, room, allowance);
+        hub->queuebytes, hub->queuecodes, copperyarn_lend(batch, batch_size), batch_size, place, out_size == 0 ? &none : out, out_size, allowance);
     hub->head = pumped.head;
     return pumped.report;
 }
@@ -267,14 +266,14 @@ static inline copperyarn_pump_answer copperyarn_pump(
  * Answers 0 or refuses 8, 6, 9, 11, 12 in this order. */
 static inline uint8_t copperyarn_update(copperyarn_hub *hub, const uint8_t *event, size_t size) {
     return copperyarn_lent_update(
-        hub->head, hub->codes, hub->hasbutton, hub->hasaxis, hub->values, hub->times, hub->marks, copperyarn_lend(event, size));
+        hub->head, hub->codes, hub->hasbutton, hub->hasaxis, hub->values, hub->times, hub->marks, copperyarn_lend(event, size), size);
 }
 
 /* Lets an event, 22 bytes, wait behind those that wait; the next pump takes it before any record.
  * Answers 0 or refuses 8, 6, 9, 11, 12, 13 in this order. */
 static inline uint8_t copperyarn_insert_event(copperyarn_hub *hub, const uint8_t *event, size_t size) {
     copperyarn_lent_done done = copperyarn_lent_insert_event(
-        hub->head, hub->codes, hub->values, hub->times, hub->queuebytes, hub->queuecodes, copperyarn_lend(event, size));
+        hub->head, hub->codes, hub->values, hub->times, hub->queuebytes, hub->queuecodes, copperyarn_lend(event, size), size);
     hub->head = done.head;
     return done.refusal;
 }

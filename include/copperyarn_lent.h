@@ -7,17 +7,6 @@
 #error "include copperyarn.h"
 #endif
 
-/* Bytes cross as a pointer, never NULL, and a size. */
-typedef struct copperyarn_lent_bytes {
-    const uint8_t *bytes;
-    size_t size;
-} copperyarn_lent_bytes;
-
-typedef struct copperyarn_lent_room {
-    uint8_t *bytes;
-    size_t size;
-} copperyarn_lent_room;
-
 /* What calls that change the head answer: the head after it, and their answer. */
 typedef struct copperyarn_lent_done {
     copperyarn_head head;
@@ -122,12 +111,6 @@ COPPERYARN_AT(copperyarn_hub, marks, 13592);
 COPPERYARN_AT(copperyarn_hub, queuebytes, 14219);
 COPPERYARN_AT(copperyarn_hub, queuecodes, 14412);
 
-COPPERYARN_SIZE(copperyarn_lent_bytes, 16);
-COPPERYARN_AT(copperyarn_lent_bytes, bytes, 0);
-COPPERYARN_AT(copperyarn_lent_bytes, size, 8);
-COPPERYARN_SIZE(copperyarn_lent_room, 16);
-COPPERYARN_AT(copperyarn_lent_room, bytes, 0);
-COPPERYARN_AT(copperyarn_lent_room, size, 8);
 COPPERYARN_SIZE(copperyarn_lent_done, 88);
 COPPERYARN_AT(copperyarn_lent_done, head, 0);
 COPPERYARN_AT(copperyarn_lent_done, refusal, 80);
@@ -138,25 +121,27 @@ COPPERYARN_SIZE(copperyarn_lent_pumped, 112);
 COPPERYARN_AT(copperyarn_lent_pumped, head, 0);
 COPPERYARN_AT(copperyarn_lent_pumped, report, 80);
 
-/* ---- the library's functions, in the order of the calls */
+/* ---- the library's functions, in the order of the calls. Bytes cross as two arguments, a pointer, never NULL, and a size. */
 
 copperyarn_lent_done copperyarn_lent_new(
     float pressed, float released, bool reversed, bool filters, bool updates, uint32_t *codes, uint8_t *kinds, uint8_t *names, uint8_t *renames,
     bool *hasbutton, bool *hasaxis, float *values, uint64_t *times, bool *marks, uint8_t *queuebytes, uint32_t *queuecodes);
 copperyarn_lent_registered copperyarn_lent_register(
     copperyarn_head head, uint32_t *codes, uint8_t *kinds, uint8_t *names, bool *hasbutton, bool *hasaxis, float *values, bool *marks,
-    copperyarn_lent_bytes sheet);
+    const uint8_t *sheet, size_t size);
 copperyarn_lent_done copperyarn_lent_rename(
-    copperyarn_head head, const uint32_t *codes, const uint8_t *kinds, uint8_t *renames, uint8_t pad, copperyarn_lent_bytes list);
+    copperyarn_head head, const uint32_t *codes, const uint8_t *kinds, uint8_t *renames, uint8_t pad, const uint8_t *list, size_t size);
 
 copperyarn_lent_pumped copperyarn_lent_pump(
     copperyarn_head head, const uint32_t *codes, const uint8_t *kinds, const uint8_t *names, const uint8_t *renames, bool *hasbutton, bool *hasaxis,
     float *values, uint64_t *times, bool *marks, uint8_t *queuebytes, uint32_t *queuecodes,
-    copperyarn_lent_bytes batch, size_t place, copperyarn_lent_room out, uint16_t allowance);
+    const uint8_t *batch, size_t batch_size, size_t place, uint8_t *out, size_t out_size, uint16_t allowance);
 uint8_t copperyarn_lent_update(
-    copperyarn_head head, const uint32_t *codes, bool *hasbutton, bool *hasaxis, float *values, uint64_t *times, bool *marks, copperyarn_lent_bytes event);
+    copperyarn_head head, const uint32_t *codes, bool *hasbutton, bool *hasaxis, float *values, uint64_t *times, bool *marks,
+    const uint8_t *event, size_t size);
 copperyarn_lent_done copperyarn_lent_insert_event(
-    copperyarn_head head, const uint32_t *codes, float *values, uint64_t *times, uint8_t *queuebytes, uint32_t *queuecodes, copperyarn_lent_bytes event);
+    copperyarn_head head, const uint32_t *codes, float *values, uint64_t *times, uint8_t *queuebytes, uint32_t *queuecodes,
+    const uint8_t *event, size_t size);
 copperyarn_due_answer copperyarn_lent_repeat(
     copperyarn_head head, const uint32_t *codes, const uint8_t *names, const uint8_t *renames, const bool *hasbutton, const float *values,
     const uint64_t *times, const bool *marks, uint64_t after, uint64_t every, uint64_t clock, uint8_t *event);
