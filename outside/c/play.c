@@ -1,10 +1,16 @@
-/* Plays the oracle's scenario form (oracle/README.md) on the hub through copperyarn.h, every call of it, and prints the answers: play FILE. Beside that it checks of
- * each call that a refusal leaves the hub as it was (but in new and the pump), and of each pump that it writes its events and no byte more. A hub holds junk before
- * `new`, and lent bytes stand in blocks of just their size, so that a memory checker sees a step beside them. */
+/* Plays the oracle's scenario form (oracle/README.md) on the hub through copperyarn.h, every call of it, and prints the answers: play FILE. Beside that it checks
+ * of each call that a refusal leaves the hub as it was (but in new and the pump), and of each pump that it writes its events and no byte more. A hub holds junk
+ * before `new`, and what a call reads stands in blocks of just its size, so that a memory checker sees a step beside them. */
 #include "test.h"
 
 static copperyarn_hub hub, before;
 static bool standing;
+
+static uint8_t *block(size_t size) {
+    uint8_t *bytes = malloc(size > 0 ? size : 1);
+    CHECK(bytes != NULL);
+    return bytes;
+}
 
 static void refused(uint8_t refusal) { printf("REFUSED %d\n", refusal); }
 
@@ -54,14 +60,14 @@ static void enrol(const uint8_t *bytes, size_t size) {
 static void pump(const uint8_t *bytes, size_t size) {
     static const char *const reasons[] = {"", "DRAINED", "FULL", "PAUSED"};
     size_t place = copperyarn_read_number(bytes, 4), room = copperyarn_read_number(bytes + 4, 4), batch_size = size - 10;
-    uint8_t *out = malloc(room + 1), *batch = malloc(batch_size);
-    memset(out, 0x5a, room + 1);
+    uint8_t *out = block(room + COPPERYARN_EVENT_SIZE), *batch = block(batch_size);
+    memset(out, 0x5a, room + COPPERYARN_EVENT_SIZE);
     memcpy(batch, bytes + 10, batch_size);
     copperyarn_pump_answer report =
         copperyarn_pump(&hub, batch, batch_size, place, room == 0 ? NULL : out, room, (uint16_t)copperyarn_read_number(bytes + 8, 2));
     CHECK(memcmp(batch, bytes + 10, batch_size) == 0);
     CHECK(report.events * COPPERYARN_EVENT_SIZE <= room);
-    for (size_t i = report.events * COPPERYARN_EVENT_SIZE; i <= room; i++) CHECK(out[i] == 0x5a);
+    for (size_t i = report.events * COPPERYARN_EVENT_SIZE; i < room + COPPERYARN_EVENT_SIZE; i++) CHECK(out[i] == 0x5a);
     for (size_t i = 0; i < report.events; i++) print_event(out + COPPERYARN_EVENT_SIZE * i);
     CHECK((report.reason == 0) == (report.refusal != 0) && report.reason <= 3);
     if (report.refusal != 0)
@@ -104,13 +110,18 @@ static void value(const char *word, copperyarn_value_answer answer) {
         printf("%s %08" PRIx32 "\n", word, copperyarn_bits(answer.value));
 }
 
-static void number(const char *form, const char *none, copperyarn_number_answer answer) {
+static void name_of(copperyarn_number_answer answer) {
+    if (answer.refusal != 0)
+        refused(answer.refusal);
+    else
+        printf("NAME %" PRIu32 "\n", answer.known ? answer.number : COPPERYARN_NO_NAME);
+}
+
+static void code_of(copperyarn_number_answer answer) {
     if (answer.refusal != 0)
         refused(answer.refusal);
     else if (!answer.known)
-        puts(none);
-    else if (form[0] == 'N')
-        printf("NAME %" PRIu32 "\n", answer.number);
+        puts("ABSENT");
     else
         printf("CODE %08" PRIx32 "\n", answer.number);
 }
@@ -157,7 +168,7 @@ static void dump(void) {
 /* ---- operations */
 
 static void ask(uint8_t opcode, const uint8_t *bytes, size_t size) {
-    uint8_t pad = bytes[0], name = bytes[1];
+    uint8_t pad = bytes[0], name = size == 2 ? bytes[1] : 0;
     uint32_t code = size == 5 ? (uint32_t)copperyarn_read_number(bytes + 1, 4) : 0;
     switch (opcode) {
     case 11: truth("IS", copperyarn_is_pressed_by_code(&hub, pad, code)); break;
@@ -168,8 +179,8 @@ static void ask(uint8_t opcode, const uint8_t *bytes, size_t size) {
     case 16: axis("STICK", copperyarn_axis_data_by_code(&hub, pad, code)); break;
     case 17: button("BUTTON", copperyarn_button_data(&hub, pad, name)); break;
     case 18: axis("STICK", copperyarn_axis_data(&hub, pad, name)); break;
-    case 19: number("NAME", "NAME 255", copperyarn_axis_or_btn_name(&hub, pad, code)); break;
-    case 20: number("CODE", "ABSENT", copperyarn_code_of_name(&hub, pad, name)); break;
+    case 19: name_of(copperyarn_axis_or_btn_name(&hub, pad, code)); break;
+    case 20: code_of(copperyarn_code_of_name(&hub, pad, name)); break;
     case 21: value("THRESHOLD", copperyarn_deadzone_threshold(&hub, pad, code)); break;
     case 22: truth("STANDS", copperyarn_is_connected(&hub, pad)); break;
     default: CHECK(false);
@@ -210,9 +221,8 @@ int main(int argc, char **argv) {
     uint8_t opening[5];
     while (fread(opening, 1, sizeof opening, file) == sizeof opening) {
         size_t size = copperyarn_read_number(opening + 1, 4);
-        uint8_t *payload = malloc(size + 1);
+        uint8_t *payload = block(size);
         CHECK(fread(payload, 1, size, file) == size);
-        payload = realloc(payload, size > 0 ? size : 1);
         play(opening[0], payload, size);
         free(payload);
     }
