@@ -1,6 +1,6 @@
-/* Plays the oracle's scenario form (oracle/README.md) on the hub through copperyarn.h, every call of it, and prints the answers: play FILE. Beside that it checks
- * of each call that a refusal leaves the hub as it was (but in new and the pump), and of each pump that it writes its events and no byte more. A hub holds junk
- * before `new`, and what a call reads stands in blocks of just its size, so that a memory checker sees a step beside them. */
+/* Plays the oracle's scenario form (oracle/README.md) on the hub through copperyarn.h, every call of it, and prints the answers: play FILE. Beside that it
+ * checks of each call that a refusal leaves the hub as it was (but in new and the pump), and of each pump that it writes its events and no byte more. A hub
+ * holds junk before `new`, and what a call reads stands in blocks of just its size, so that a memory checker sees a step beside them. */
 #include "test.h"
 
 static copperyarn_hub hub, before;
