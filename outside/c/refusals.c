@@ -76,6 +76,11 @@ static void register_pad(void) {
     twice[1].name = COPPERYARN_NO_NAME;
     copperyarn_pad_answer answer = copperyarn_register(&hub, sheet, copperyarn_write_sheet(sheet, 15, twice, 2));
     CHECK(answer.refusal == 0 && answer.pad == 0 && copperyarn_is_connected(&hub, 0).is);
+    /* whatever marks stood at its places, a new pad has no record */
+    fresh(&hub, true);
+    hub.hasbutton[0] = hub.hasaxis[1] = true;
+    enrol(&hub, ELEMENTS, 3);
+    CHECK(!hub.hasbutton[0] && !hub.hasaxis[1]);
 }
 
 static void rename_pad(void) {
