@@ -1,36 +1,12 @@
-//! The library's exports, and the hub's fields lent to them. The one file with `unsafe`: it says of the declarations below that they may be called from safe
-//! Rust with any arguments. They may, since each export is proved, in `crates/copperyarn`, to ask nothing of its caller, to end, and to write nothing but what
-//! it is lent and answers; what is left to trust is that the names, the types and their layout are the same here and there.
+//! The library's exports, and the hub's fields lent to them. The one file with `unsafe`. Each export is proved, in `crates/copperyarn`, to ask nothing of its
+//! caller, to end, and to write nothing but what it is lent and answers; so those that are lent whole fields are `safe` to call. A slice crosses as its pointer
+//! and its size, two parameters, which must belong together: the calls that lend one say so. What is left to trust is that names, types and layout are the same
+//! here and there.
 
 use crate::hub::Settings;
 use crate::layout::*;
-use std::marker::PhantomData;
 
-/// Bytes that are lent to be read.
-#[repr(C)]
-struct Lent<'a> {
-    at: *const u8,
-    size: usize,
-    lender: PhantomData<&'a [u8]>,
-}
-
-/// Bytes that are lent to be written.
-#[repr(C)]
-struct LentMut<'a> {
-    at: *mut u8,
-    size: usize,
-    lender: PhantomData<&'a mut [u8]>,
-}
-
-fn lent(bytes: &[u8]) -> Lent<'_> {
-    Lent { at: bytes.as_ptr(), size: bytes.len(), lender: PhantomData }
-}
-
-fn lent_mut(bytes: &mut [u8]) -> LentMut<'_> {
-    LentMut { at: bytes.as_mut_ptr(), size: bytes.len(), lender: PhantomData }
-}
-
-// SAFETY: as the head of this file says.
+// SAFETY: names, types and their order are those of `crates/copperyarn/src`; what `safe` says is the head of this file.
 unsafe extern "C" {
     safe fn copperyarn_lent_new(
         pressed: f32, released: f32, reversed: bool, filters: bool, updates: bool, codes: &mut Codes,
@@ -38,25 +14,26 @@ unsafe extern "C" {
         values: &mut Values, times: &mut Times, marks: &mut Marks, queuebytes: &mut QueueBytes,
         queuecodes: &mut QueueCodes,
     ) -> Done;
-    safe fn copperyarn_lent_register(
+    fn copperyarn_lent_register(
         head: Head, codes: &mut Codes, kinds: &mut Bytes, names: &mut Bytes, hasbutton: &mut Bools,
-        hasaxis: &mut Bools, values: &mut Values, marks: &mut Marks, sheet: Lent<'_>,
+        hasaxis: &mut Bools, values: &mut Values, marks: &mut Marks, sheet: *const u8, sheet_size: usize,
     ) -> Registered;
-    safe fn copperyarn_lent_rename(
-        head: Head, codes: &Codes, kinds: &Bytes, renames: &mut Bytes, pad: u8, list: Lent<'_>,
+    fn copperyarn_lent_rename(
+        head: Head, codes: &Codes, kinds: &Bytes, renames: &mut Bytes, pad: u8, list: *const u8, list_size: usize,
     ) -> Done;
-    safe fn copperyarn_lent_pump(
+    fn copperyarn_lent_pump(
         head: Head, codes: &Codes, kinds: &Bytes, names: &Bytes, renames: &Bytes, hasbutton: &mut Bools,
         hasaxis: &mut Bools, values: &mut Values, times: &mut Times, marks: &mut Marks, queuebytes: &mut QueueBytes,
-        queuecodes: &mut QueueCodes, batch: Lent<'_>, place: usize, out: LentMut<'_>, allowance: u16,
+        queuecodes: &mut QueueCodes, batch: *const u8, batch_size: usize, place: usize, out: *mut u8, out_size: usize,
+        allowance: u16,
     ) -> Pumped;
-    safe fn copperyarn_lent_update(
+    fn copperyarn_lent_update(
         head: Head, codes: &Codes, hasbutton: &mut Bools, hasaxis: &mut Bools, values: &mut Values, times: &mut Times,
-        marks: &mut Marks, event: Lent<'_>,
+        marks: &mut Marks, event: *const u8, event_size: usize,
     ) -> u8;
-    safe fn copperyarn_lent_insert_event(
+    fn copperyarn_lent_insert_event(
         head: Head, codes: &Codes, values: &mut Values, times: &mut Times, queuebytes: &mut QueueBytes,
-        queuecodes: &mut QueueCodes, event: Lent<'_>,
+        queuecodes: &mut QueueCodes, event: *const u8, event_size: usize,
     ) -> Done;
     safe fn copperyarn_lent_repeat(
         head: Head, codes: &Codes, names: &Bytes, renames: &Bytes, hasbutton: &Bools, values: &Values, times: &Times,
@@ -148,14 +125,19 @@ impl Fields {
 
     pub(crate) fn register(&mut self, sheet: &[u8]) -> Pad {
         let Fields { head, codes, kinds, names, hasbutton, hasaxis, values, marks, .. } = self;
-        let r = copperyarn_lent_register(*head, codes, kinds, names, hasbutton, hasaxis, values, marks, lent(sheet));
-        self.head = r.head;
-        r.pad
+        let (at, size) = (sheet.as_ptr(), sheet.len());
+        // SAFETY: pointer and size are the sheet's.
+        let registered = unsafe {
+            copperyarn_lent_register(*head, codes, kinds, names, hasbutton, hasaxis, values, marks, at, size)
+        };
+        self.head = registered.head;
+        registered.pad
     }
 
     pub(crate) fn rename(&mut self, pad: u8, list: &[u8]) -> u8 {
         let Fields { head, codes, kinds, renames, .. } = self;
-        let done = copperyarn_lent_rename(*head, codes, kinds, renames, pad, lent(list));
+        // SAFETY: pointer and size are the list's.
+        let done = unsafe { copperyarn_lent_rename(*head, codes, kinds, renames, pad, list.as_ptr(), list.len()) };
         self.head = done.head;
         done.refusal
     }
@@ -175,23 +157,31 @@ impl Fields {
             queuebytes,
             queuecodes,
         } = self;
-        let (batch, out) = (lent(batch), lent_mut(out));
-        let pumped = copperyarn_lent_pump(
-            *head, codes, kinds, names, renames, hasbutton, hasaxis, values, times, marks, queuebytes, queuecodes,
-            batch, place, out, allowance,
-        );
+        let (from, size, to, room) = (batch.as_ptr(), batch.len(), out.as_mut_ptr(), out.len());
+        // SAFETY: the first pointer and size are the batch's, the second the out buffer's, which is not shared.
+        let pumped = unsafe {
+            copperyarn_lent_pump(
+                *head, codes, kinds, names, renames, hasbutton, hasaxis, values, times, marks, queuebytes, queuecodes,
+                from, size, place, to, room, allowance,
+            )
+        };
         self.head = pumped.head;
         pumped.report
     }
 
     pub(crate) fn update(&mut self, event: &[u8]) -> u8 {
         let Fields { head, codes, hasbutton, hasaxis, values, times, marks, .. } = self;
-        copperyarn_lent_update(*head, codes, hasbutton, hasaxis, values, times, marks, lent(event))
+        let (at, size) = (event.as_ptr(), event.len());
+        // SAFETY: pointer and size are the event's.
+        unsafe { copperyarn_lent_update(*head, codes, hasbutton, hasaxis, values, times, marks, at, size) }
     }
 
     pub(crate) fn insert_event(&mut self, event: &[u8]) -> u8 {
         let Fields { head, codes, values, times, queuebytes, queuecodes, .. } = self;
-        let done = copperyarn_lent_insert_event(*head, codes, values, times, queuebytes, queuecodes, lent(event));
+        let (at, size) = (event.as_ptr(), event.len());
+        // SAFETY: pointer and size are the event's.
+        let done =
+            unsafe { copperyarn_lent_insert_event(*head, codes, values, times, queuebytes, queuecodes, at, size) };
         self.head = done.head;
         done.refusal
     }
