@@ -94,7 +94,7 @@ impl Hub {
     /// # assert!(hub.is_pressed(pad, Button::South)?);
     /// # Ok::<(), Refusal>(())
     /// ```
-    pub fn feed<'a>(&'a mut self, records: &'a [RawRecord]) -> Feed<'a> {
+    pub fn feed<'r>(&mut self, records: &'r [RawRecord]) -> Feed<'_, 'r> {
         Feed { hub: self, records: records.iter() }
     }
 }
@@ -120,24 +120,24 @@ impl Hub {
 /// looked at, and are the caller's to feed again or to leave.
 #[derive(Debug)]
 #[must_use = "a feed makes its events as they are asked for"]
-pub struct Feed<'a> {
-    hub: &'a mut Hub,
-    records: slice::Iter<'a, RawRecord>,
+pub struct Feed<'h, 'r> {
+    hub: &'h mut Hub,
+    records: slice::Iter<'r, RawRecord>,
 }
 
-impl<'a> Feed<'a> {
+impl<'r> Feed<'_, 'r> {
     /// The hub behind the events so far.
     pub fn hub(&self) -> &Hub {
         self.hub
     }
 
     /// The records that were not taken yet.
-    pub fn rest(&self) -> &'a [RawRecord] {
+    pub fn rest(&self) -> &'r [RawRecord] {
         self.records.as_slice()
     }
 }
 
-impl Iterator for Feed<'_> {
+impl Iterator for Feed<'_, '_> {
     type Item = Result<Event, Refused>;
 
     fn next(&mut self) -> Option<Result<Event, Refused>> {

@@ -6,27 +6,29 @@ use std::io::{self, Write};
 
 /// Plays all operations, and writes one line per answer and event.
 pub fn play(operations: &[Operation<'_>], out: &mut impl Write) -> io::Result<()> {
-    let mut hub: Option<Hub> = None;
+    let mut hub = None;
     for operation in operations {
-        let lines = match (operation, &mut hub) {
-            (Operation::New(settings), hub) => match open(settings) {
-                Ok(fresh) => {
-                    *hub = Some(fresh);
-                    vec!["HUB".to_string()]
-                }
-                Err(refusal) => {
-                    *hub = None;
-                    vec![refused(refusal)]
-                }
-            },
-            (_, None) => vec!["NO HUB".to_string()],
-            (operation, Some(hub)) => answers(hub, operation).unwrap_or_else(|refusal| vec![refused(refusal)]),
-        };
-        for line in lines {
+        for line in answer(&mut hub, operation) {
             writeln!(out, "{line}")?;
         }
     }
     Ok(())
+}
+
+/// Plays one operation on the hub, if one stands: its lines.
+pub fn answer(hub: &mut Option<Hub>, operation: &Operation<'_>) -> Vec<String> {
+    let answers = match (operation, hub.as_mut()) {
+        (Operation::New(settings), _) => {
+            *hub = None;
+            open(settings).map(|fresh| {
+                *hub = Some(fresh);
+                vec!["HUB".to_string()]
+            })
+        }
+        (_, None) => Ok(vec!["NO HUB".to_string()]),
+        (operation, Some(hub)) => answers(hub, operation),
+    };
+    answers.unwrap_or_else(|refusal| vec![refused(refusal)])
 }
 
 fn refused(refusal: Refusal) -> String {

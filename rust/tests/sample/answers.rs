@@ -1,19 +1,6 @@
 //! The stored scenarios, played through the crate's calls, give the answers that gilrs gave.
 
-#[path = "../../oracle/reading/bytes.rs"]
-#[allow(dead_code)]
-mod bytes;
-#[path = "../examples/play/player.rs"]
-mod player;
-#[path = "../../oracle/reading/scenario.rs"]
-#[allow(dead_code)]
-mod scenario;
-
-/// A stored file.
-fn stored(name: &str) -> Vec<u8> {
-    let path = format!("{}/../oracle/sample/{}", env!("CARGO_MANIFEST_DIR"), name);
-    std::fs::read(&path).unwrap_or_else(|error| panic!("{path}: {error}"))
-}
+use crate::{player, scenario, stored};
 
 /// Plays a scenario file, and holds each line to the stored one; how many lines there were.
 fn played(scenarios: &str, answers: &str) -> usize {
@@ -30,15 +17,15 @@ fn played(scenarios: &str, answers: &str) -> usize {
 
 #[test]
 fn the_sample_is_answered_as_gilrs_does() {
-    assert!(played("scenarios.bin", "answers.txt") > 10_000);
+    assert_eq!(played("scenarios.bin", "answers.txt"), 25_962);
 }
 
 #[test]
 fn the_example_is_answered_as_01_says() {
-    assert!(played("example.bin", "example.txt") > 0);
+    assert_eq!(played("example.bin", "example.txt"), 14);
 }
 
 #[test]
 fn the_worked_numbers_are_those_of_01() {
-    assert!(played("worked.bin", "worked.txt") > 0);
+    assert_eq!(played("worked.bin", "worked.txt"), 75);
 }
