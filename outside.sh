@@ -10,7 +10,8 @@ say() { printf 'outside: %s\n' "$*"; }
 
 rt staticlib copperyarn 2>&1 | scripts/progress | tail -n 1
 left=0
-outside/c/test.sh || { code=$?; [ "$code" -eq 3 ] && left=1 || exit "$code"; }
+outside/c/test.sh || left=$?
+[ "$left" -eq 0 ] || [ "$left" -eq 3 ] || exit "$left"
 . scripts/x86.sh
 if [ -n "$x86_missing" ]; then
   say "the Rust tests are left out, for want of $x86_missing (scripts/x86-install brings it to a Debian machine)"
@@ -18,5 +19,10 @@ if [ -n "$x86_missing" ]; then
 fi
 # shellcheck disable=SC2086
 (cd rust && cargo test --quiet --offline $x86_cargo)
+oracle/build.sh || { [ $? -eq 3 ] && count=0 || exit 1; }
 rust/compare.sh "$count" "$seed"
-[ "$left" -eq 0 ] && say 'C and Rust hold to the answers' || say 'Rust holds to the answers; the C tests were left out'
+if [ "$left" -eq 0 ]; then
+  say 'C and Rust hold to the answers'
+else
+  say 'Rust holds to the answers; the C tests were left out'
+fi
