@@ -7,14 +7,14 @@ use crate::refusal::{judged, Refusal};
 use crate::sheet::Sheet;
 use std::fmt;
 
-/// What a hub is made with; gilrs's builder has the same defaults.
+/// What a hub is made with. The defaults are those of gilrs's builder.
 #[derive(Clone, Copy, Debug, PartialEq)]
 pub struct Settings {
     /// A trigger that reaches this value is pressed; 0.75.
     pub pressed: f32,
     /// A pressed trigger that falls to this value is released; 0.65.
     pub released: f32,
-    /// Whether the pads' Y axes point down, so that their values are negated; no.
+    /// Whether the pads' Y axes point down, so that their values are negated and up is +1.0; yes, as evdev's do, and as gilrs has it on Linux.
     pub reversed_y: bool,
     /// Whether events pass the filters: hats to directions, jitter, deadzone; yes.
     pub filters: bool,
@@ -24,7 +24,7 @@ pub struct Settings {
 
 impl Default for Settings {
     fn default() -> Settings {
-        Settings { pressed: 0.75, released: 0.65, reversed_y: false, filters: true, updates: true }
+        Settings { pressed: 0.75, released: 0.65, reversed_y: true, filters: true, updates: true }
     }
 }
 

@@ -48,3 +48,8 @@ pub use record::{RawRecord, RawType};
 pub use refusal::Refusal;
 pub use sheet::{Sheet, SheetBuilder};
 pub use state::{AxisData, ButtonData};
+
+/// The programs of `docs/FROM-GILRS.md`, run as examples of this crate.
+#[cfg(doctest)]
+#[doc = include_str!("../../docs/FROM-GILRS.md")]
+struct FromGilrs;

@@ -19,7 +19,7 @@ impl fmt::Display for PadId {
 }
 
 /// The Linux input number of an element: the event's type in the upper half, its code in the lower.
-#[derive(Clone, Copy, Debug, Eq, Hash, Ord, PartialEq, PartialOrd)]
+#[derive(Clone, Copy, Eq, Hash, Ord, PartialEq, PartialOrd)]
 pub struct Code(pub u32);
 
 impl Code {
@@ -42,6 +42,12 @@ impl Code {
     /// The number.
     pub fn into_u32(self) -> u32 {
         self.0
+    }
+}
+
+impl fmt::Debug for Code {
+    fn fmt(&self, f: &mut fmt::Formatter<'_>) -> fmt::Result {
+        write!(f, "Code({:#010x})", self.0)
     }
 }
 
