@@ -102,7 +102,8 @@ impl Event {
         Event::read(bytes).filter(|event| event.to_bytes() == *bytes).ok_or(Refusal::Malformed)
     }
 
-    fn read(bytes: &[u8]) -> Option<Event> {
+    /// The fields alone: what [`from_bytes`](Event::from_bytes) finds wrong in the others is let by.
+    pub(crate) fn read(bytes: &[u8]) -> Option<Event> {
         let [_, _, _, kind, pad, name, c0, c1, c2, c3, v0, v1, v2, v3, time @ ..] =
             *<&[u8; Event::SIZE]>::try_from(bytes).ok()?;
         let code = Code(u32::from_be_bytes([c0, c1, c2, c3]));
