@@ -75,3 +75,6 @@ connected = 22
 
 abbrev pub waiting : ℕ
 waiting = 23
+
+abbrev pub dump : ℕ
+dump = 24
