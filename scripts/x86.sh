@@ -1,3 +1,4 @@
+# shellcheck shell=bash disable=SC2034
 # Sourced: how programs for x86-64, which the library is made for, are built and run on this machine. Sets
 #   x86_missing   what is missing here, in words; empty where nothing is
 #   x86_cc        the C compiler, with its words

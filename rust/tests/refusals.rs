@@ -153,3 +153,13 @@ fn a_refusal_has_its_number_and_its_sentence() {
     let refused = hub().feed(&[RawRecord::connected(PadId(3), 9)]).next().expect("an item").unwrap_err();
     assert!(refused.to_string().starts_with("pad not registered: RawRecord"));
 }
+
+#[test]
+fn the_sentences_are_the_headers() {
+    let header = include_str!("../../include/copperyarn.h");
+    for refusal in Refusal::ALL {
+        let spoken = |line: &&str| line.trim_start().starts_with(&format!("EACH({}, ", refusal.number()));
+        let line = header.lines().find(spoken).expect("a sentence for each number");
+        assert_eq!(line.split('"').nth(1), Some(refusal.to_string().as_str()));
+    }
+}
