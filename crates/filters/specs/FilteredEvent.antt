@@ -1,7 +1,7 @@
--- What the filters send and what waits behind it, told one by one. The laws: it is what the law book's answer holds, its event, flags, count, and each
--- event of its queue up to the count.
+-- What the filters send and what waits behind it, told one by one. The laws: it is what the law book's answer holds, its event and flags, the length of
+-- its list, and each event that it lists.
 use Prim.Native.Nat.{ℕ, zero, suc, _+_, _-_, _≤_, _<_}
-use mathlib.Core.Path.{_≡_, refl, sym, _∙_, ap}
+use mathlib.Core.Path.{_≡_, refl, sym, _∙_}
 use mathlib.Core.Bool.{Bool, true, false, cond}
 use mathlib.Core.List.{List, [], _∷_, _++_}
 use lib.Dec.{eqb, leb}

@@ -8,7 +8,6 @@ use lib.ListN.{getD, set}
 use lib.Dec.{eqb}
 use lib.Ieee.{Float}
 use Rattle.rules.specs.declared.Hub.{Hub}
-use Rattle.rules.specs.declared.Event.{Event}
 use Rattle.rules.specs.declared.Dispatched.{Dispatched}
 use Rattle.rules.specs.declared.View.{View}
 use Rattle.rules.specs.Sheets.{elementAxis}
