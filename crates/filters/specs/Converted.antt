@@ -1,11 +1,13 @@
--- What the dpad filter promises: the answer of the law book, and how many events it queues.
+-- What the dpad filter promises: the event of the law book's answer, and how many events are queued behind it.
 use mathlib.Core.Path.{_≡_}
 use Prim.Native.Nat.{ℕ, _≤_}
+use lib.ListN.{length}
 use Rattle.rules.specs.declared.Event.{Event}
 use Rattle.rules.specs.declared.View.{View}
-use Rattle.rules.specs.declared.Gives.{Gives}
 use Rattle.rules.specs.Names.{positiveName, negativeName, positiveCode, negativeCode}
+use Rattle.rules.specs.Events.{Gives}
 use Rattle.rules.specs.Filters.{Direction, dpadOf}
+use Rattle.filters.specs.declared.dpad.Converted.{Converted}
 
 -- a direction of a hat
 abbrev pub direction : ℕ → ℕ → Direction
@@ -18,7 +20,11 @@ plus n = direction (positiveName n) (positiveCode n)
 abbrev pub minus : ℕ → Direction
 minus n = direction (negativeName n) (negativeCode n)
 
--- dpad queues three events at most, so that a clearing event has room behind them
-pub record Converted (v : View) (e : Event) (r : Gives) : Type 0 where
-  pub is : r ≡ dpadOf v e
+-- the queue by its length alone
+abbrev pub counted : Gives → Converted
+counted g = record { event = g .event; count = length (g .queued) }
+
+-- dpad queues three events at most, so that the sum with a clearing event is a byte
+pub record ConvertedIs (v : View) (e : Event) (r : Converted) : Type 0 where
+  pub is : r ≡ counted (dpadOf v e)
   pub small : r .count ≤ 3

@@ -1,29 +1,30 @@
--- What the filters send and what waits behind it, told one by one. The laws: it is what the law book's answer holds, its event, flags, count, and each
--- event of its queue up to the count.
+-- What the filters send and what waits behind it, told one by one. The laws: it is what the law book's answer holds, its event and flags, the length of
+-- its list, and each event that it lists.
 use Prim.Native.Nat.{ℕ, zero, suc, _+_, _-_, _≤_, _<_}
-use mathlib.Core.Path.{_≡_, refl, sym, _∙_, ap}
+use mathlib.Core.Path.{_≡_, refl, sym, _∙_}
 use mathlib.Core.Bool.{Bool, true, false, cond}
-use mathlib.Core.List.{List, _∷_}
+use mathlib.Core.List.{List, [], _∷_, _++_}
 use lib.Dec.{eqb, leb}
-use lib.ListN.{length, getD, set, length-set}
-use lib.Seq.{getD-set-same, getD-set-other}
+use lib.ListN.{length, getD, length-append, List·getD-append}
+use lib.Seq.{getD-at}
 use borrow.Author.Tests.{leb-true, leb-false, ne-eqb}
 use native.Mathlib.Omega.{arith}
 use Rattle.rules.specs.declared.Event.{Event}
 use Rattle.rules.specs.declared.View.{View}
-use Rattle.rules.specs.declared.Gives.{Gives}
 use Rattle.rules.specs.declared.Zoned.{Zoned}
-use Rattle.rules.specs.declared.Filtered.{Filtered}
 use Rattle.rules.specs.Places.{oneIf}
+use Rattle.rules.specs.Events.{Gives, eventIf}
 use Rattle.rules.specs.Filters.{dpadOf, jitteredOf, deadzonedOf, joined, filteredOf}
-use Rattle.filters.specs.Counts.{dpad-few, dpad-four}
+use Rattle.filters.specs.Counts.{dpad-few}
 use Rattle.filters.specs.Queued.{queuedAt, queued-is}
 use Rattle.filters.specs.declared.FilteredEvent.{FilteredEvent}
 
 -- ---- what is sent
 
 abbrev pub filteredEventBy : Gives → Zoned → FilteredEvent
-filteredEventBy g z = record { event = z .event; count = g .count + oneIf (z .clears); hats = g .count; clearing = z .clearing; flags = z .flags }
+filteredEventBy g z =
+    let hats = length (g .queued) in
+    record { event = z .event; count = hats + oneIf (z .clears); hats = hats; clearing = z .clearing; flags = z .flags }
 
 unfoldable pub filteredEventOf : Bool → View → Event → FilteredEvent
 unfolding dpadOf jitteredOf deadzonedOf
@@ -44,7 +45,7 @@ queuedBehindOf next v e s at = cond (eqb at 0) next (cond (leb at (s .hats)) (qu
 
 -- ---- it is the law book's answer
 
-pub one-few : (b : Bool) → oneIf b ≤ 1
+one-few : (b : Bool) → oneIf b ≤ 1
 one-few true = omega arith
 one-few false = omega arith
 
@@ -61,9 +62,15 @@ unfolding filteredEventOf filteredOf joined
 sent-event true v e = refl
 sent-event false v e = refl
 
-pub sent-count : (on : Bool) (v : View) (e : Event) → filteredEventOf on v e .count ≡ filteredOf on v e .gives .count
+one-or-none : (there : Bool) (e : Event) → length (eventIf there e) ≡ oneIf there
+one-or-none true e = refl
+one-or-none false e = refl
+
+pub sent-count : (on : Bool) (v : View) (e : Event) → filteredEventOf on v e .count ≡ length (filteredOf on v e .gives .queued)
 unfolding filteredEventOf filteredOf joined
-sent-count true v e = refl
+sent-count true v e =
+    let z = deadzonedOf v (jitteredOf v (dpadOf v e .event)) in
+    rw (length-append, one-or-none (z .clears) (z .clearing))
 sent-count false v e = refl
 
 pub sent-flags : (on : Bool) (v : View) (e : Event) → filteredEventOf on v e .flags ≡ filteredOf on v e .flags
@@ -71,27 +78,31 @@ unfolding filteredEventOf filteredOf joined
 sent-flags true v e = refl
 sent-flags false v e = refl
 
-pub filtered-four : (on : Bool) (v : View) (e : Event) → length (filteredOf on v e .gives .queued) ≡ 4
-unfolding filteredOf joined
-filtered-four true v e = rw length-set (dpad-four v e)
-filtered-four false v e = refl
-
 -- behind the hat's events stands the clearing one
-behind-joined : (past : Event) (v : View) (e clearing : Event) (some : ℕ) (k : ℕ) → some ≤ 1 → suc k ≤ dpadOf v e .count + some → cond (leb (suc k) (dpadOf v e .count)) (queuedAt v e k) clearing ≡ getD (set (dpadOf v e .queued) (dpadOf v e .count) clearing) k past
-behind-joined past v e clearing some k one h = go (leb (suc k) (dpadOf v e .count)) refl
+behind-joined :
+    (past : Event) (v : View) (e clearing : Event) (clears : Bool) (k : ℕ) →
+    k < length (dpadOf v e .queued ++ eventIf clears clearing) →
+    cond (leb (suc k) (length (dpadOf v e .queued))) (queuedAt v e k) clearing ≡ getD (dpadOf v e .queued ++ eventIf clears clearing) k past
+behind-joined past v e clearing clears k h = go clears (leb (suc k) (length hats)) refl h
   where
-    n : ℕ
-    n = dpadOf v e .count
+    hats : List Event
+    hats = dpadOf v e .queued
 
-    go : (b : Bool) → leb (suc k) n ≡ b → cond b (queuedAt v e k) clearing ≡ getD (set (dpadOf v e .queued) n clearing) k past
-    go true t =
-        let within : k < n = leb-true (suc k) n t in
-        queued-is past v e k within ∙ sym (getD-set-other (dpadOf v e .queued) n k clearing past (λ (same : k ≡ n). omega arith))
-    go false t =
-        let past-hats : n < suc k = leb-false (suc k) n t in
-        let last : k ≡ n = omega arith in
-        let room : n < length (dpadOf v e .queued) = rw (dpad-four v e) (omega (arith, dpad-few v e)) in
-        sym (getD-set-same (dpadOf v e .queued) n clearing past room) ∙ ap (λ (i : ℕ). getD (set (dpadOf v e .queued) n clearing) i past) (sym last)
+    go :
+        (clears b : Bool) →
+        leb (suc k) (length hats) ≡ b →
+        k < length (hats ++ eventIf clears clearing) →
+        cond b (queuedAt v e k) clearing ≡ getD (hats ++ eventIf clears clearing) k past
+    go clears true t h =
+        let within : k < length hats = leb-true (suc k) (length hats) t in
+        queued-is past v e k within ∙ sym (List·getD-append hats (eventIf clears clearing) past k within)
+    go true false t h =
+        let past-hats : length hats < suc k = leb-false (suc k) (length hats) t in
+        let last : length hats ≡ k = omega (arith, length-append hats (clearing ∷ [])) in
+        sym (getD-at hats clearing [] past k last)
+    go false false t h =
+        let past-hats : length hats < suc k = leb-false (suc k) (length hats) t in
+        absurd (omega (arith, length-append hats []))
 
 not-first : (k : ℕ) → eqb (suc k) 0 ≡ false
 not-first k = ne-eqb (suc k) 0 (λ (none : suc k ≡ 0). omega arith)
@@ -101,11 +112,11 @@ one-less k = omega arith
 
 pub behind-is :
     (past : Event) (on : Bool) (next : Event) (v : View) (e : Event) (at : ℕ) →
-    at ≤ filteredOf on v e .gives .count →
+    at ≤ length (filteredOf on v e .gives .queued) →
     queuedBehindOf next v e (filteredEventOf on v e) at ≡ getD (next ∷ filteredOf on v e .gives .queued) at past
 unfolding queuedBehindOf filteredEventOf filteredOf joined
 behind-is past on next v e zero h = refl
 behind-is past true next v e (suc k) h =
     let z = deadzonedOf v (jitteredOf v (dpadOf v e .event)) in
-    rw (not-first k, one-less k) (behind-joined past v e (z .clearing) (oneIf (z .clears)) k (one-few (z .clears)) h)
+    rw (not-first k, one-less k) (behind-joined past v e (z .clearing) (z .clears) k h)
 behind-is past false next v e (suc k) h = absurd (omega arith)

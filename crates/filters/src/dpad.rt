@@ -4,14 +4,13 @@ ghost use mathlib.Core.Path.{_≡_};
 ghost use mathlib.Core.Bool.{true, false, cond};
 ghost use Rattle.rules.specs.Events as events;
 ghost use Rattle.rules.specs.Filters.{hatBy, hatGives};
-ghost use Rattle.filters.specs.Converted.{Converted, direction, plus, minus};
+ghost use Rattle.filters.specs.Converted.{ConvertedIs, counted, direction, plus, minus};
 ghost use Rattle.filters.specs.Queued.{oneOf, towardAt, centredAt, hatAt, queuedAt};
 use rules::Event;
 use rules::EventType;
-use rules::Gives;
 use rules::View;
 
-// ---- an event of the same pad and time, and what is queued behind one
+// ---- an event of the same pad and time
 
 // gilrs's `..ev`
 pub fn with(e: Event, t: EventType) -> Event
@@ -35,55 +34,37 @@ pub fn dropped(e: Event) -> Event
     }
 }
 
-// An event with nothing queued behind it.
-pub fn alone(e: Event) -> Gives
-    ensures { λ r. ⌜ r ≡ events.alone e ⌝ }
-{
-    Gives {
-        event: e,
-        count: 0,
-        queued: [e, e, e, e],
-    }
-}
-
-fn followed(e: Event, a: Event) -> Gives
-    ensures { λ r. ⌜ r ≡ events.followed e a ⌝ }
-{
-    Gives {
-        event: e,
-        count: 1,
-        queued: [a, a, a, a],
-    }
-}
-
-fn followed_by_three(e: Event, a: Event, b: Event, c: Event) -> Gives
-    ensures { λ r. ⌜ r ≡ events.followedByThree e a b c ⌝ }
-{
-    Gives {
-        event: e,
-        count: 3,
-        queued: [a, b, c, c],
-    }
-}
-
 // ---- dpad
 
-// A direction is pressed; an opposite that is still held is released before it.
-fn toward(e: Event, held: bool, name: u8, code: u32, othername: u8, othercode: u32) -> Gives
-    ensures { λ r. ⌜ r ≡ hatBy true false false held e (direction name code) (direction othername othercode) ⌝ }
+// What passes, and how many events are queued behind it.
+pub struct Converted {
+    pub event: Event,
+    pub count: u8,
+}
+
+fn alone(e: Event) -> Converted
+    ensures { λ r. ⌜ r ≡ counted (events.alone e) ⌝ }
 {
-    let press = with(e, EventType::Pressed(name, code));
-    let reads = with(e, EventType::Changed(name, code, 1.0));
+    Converted { event: e, count: 0 }
+}
+
+// A direction is pressed; an opposite that is still held is released before it.
+fn toward(e: Event, held: bool, name: u8, code: u32, othername: u8, othercode: u32) -> Converted
+    ensures { λ r. ⌜ r ≡ counted (hatBy true false false held e (direction name code) (direction othername othercode)) ⌝ }
+{
     if held {
-        let release = with(e, EventType::Released(othername, othercode));
-        let rests = with(e, EventType::Changed(othername, othercode, 0.0));
-        followed_by_three(release, reads, press, rests)
-    } else {
-        followed(press, reads)
+        return Converted {
+            event: with(e, EventType::Released(othername, othercode)),
+            count: 3,
+        };
+    }
+    Converted {
+        event: with(e, EventType::Pressed(name, code)),
+        count: 1,
     }
 }
 
-// The hat rests: both directions are released where they are held, the negative one last queued and first sent.
+// The hat rests: both directions are released where they are held, the negative one first.
 fn centred(
     e: Event,
     positive: bool,
@@ -92,28 +73,34 @@ fn centred(
     code: u32,
     othername: u8,
     othercode: u32,
-) -> Gives
-    ensures { λ r. ⌜ r ≡ hatBy false false positive negative e (direction name code) (direction othername othercode) ⌝ }
+) -> Converted
+    ensures { λ r. ⌜ r ≡ counted (hatBy false false positive negative e (direction name code) (direction othername othercode)) ⌝ }
 {
-    let release = with(e, EventType::Released(name, code));
-    let rests = with(e, EventType::Changed(name, code, 0.0));
-    let otherrelease = with(e, EventType::Released(othername, othercode));
-    let otherrests = with(e, EventType::Changed(othername, othercode, 0.0));
-    if positive {
-        if negative {
-            return followed_by_three(otherrelease, rests, release, otherrests);
-        }
-        return followed(release, rests);
-    }
     if negative {
-        return followed(otherrelease, otherrests);
+        let release = with(e, EventType::Released(othername, othercode));
+        if positive {
+            return Converted {
+                event: release,
+                count: 3,
+            };
+        }
+        return Converted {
+            event: release,
+            count: 1,
+        };
+    }
+    if positive {
+        return Converted {
+            event: with(e, EventType::Released(name, code)),
+            count: 1,
+        };
     }
     alone(dropped(e))
 }
 
 // "Only exactly 1.0 and -1.0 press."
-fn hat(v: View, e: Event, n: u8, x: f32) -> Gives
-    ensures { λ r. ⌜ r ≡ hatGives v e n x ⌝ }
+fn hat(v: View, e: Event, n: u8, x: f32) -> Converted
+    ensures { λ r. ⌜ r ≡ counted (hatGives v e n x) ⌝ }
 {
     let name = names::positive_name(n);
     let code = names::positive_code(n);
@@ -129,8 +116,8 @@ fn hat(v: View, e: Event, n: u8, x: f32) -> Gives
 }
 
 // gilrs's `axis_dpad_to_button`
-pub fn dpad(v: View, e: Event) -> Gives
-    ensures { λ r. ⌜ Converted v e r ⌝ }
+pub fn dpad(v: View, e: Event) -> Converted
+    ensures { λ r. ⌜ ConvertedIs v e r ⌝ }
 {
     let t = e.event;
     match t {

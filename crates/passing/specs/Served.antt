@@ -1,22 +1,19 @@
 -- What is left once a taken event is served: the event that the filters hand on, the flags, and the queue with what the record and the filters queue. The
 -- records, whose columns stand in the same arrays as the queue's, are as they were, so what is seen of them after the first push is what stood before it.
 use Prim.Native.Nat.{ℕ}
-use mathlib.Core.Path.{_≡_, refl, sym, _∙_, ap, subst}
-use mathlib.Core.Bool.{Bool, true, false, cond}
-use mathlib.Core.List.{List, [], _∷_, _++_, append-nil}
+use mathlib.Core.Path.{_≡_, sym, _∙_, ap, subst}
+use mathlib.Core.Bool.{Bool, false}
+use mathlib.Core.List.{List, append-nil}
 use lib.ListN.{getD, set}
 use lib.Dec.{eqb}
 use lib.Ieee.{Float}
 use Rattle.rules.specs.declared.Hub.{Hub}
-use Rattle.rules.specs.declared.Event.{Event}
 use Rattle.rules.specs.declared.Dispatched.{Dispatched}
-use Rattle.rules.specs.declared.Gives.{Gives}
-use Rattle.rules.specs.declared.Filtered.{Filtered}
 use Rattle.rules.specs.declared.View.{View}
 use Rattle.rules.specs.Sheets.{elementAxis}
 use Rattle.rules.specs.Places.{placeOf}
-use Rattle.rules.specs.Events.{nameOf, codeOf, queuedOf}
-use Rattle.rules.specs.Filters.{filteredOf, unfiltered}
+use Rattle.rules.specs.Events.{nameOf, codeOf, eventIf}
+use Rattle.rules.specs.Filters.{Filtered, filteredOf, unfiltered}
 use Rattle.rules.specs.Hub.{viewOf, pastElement, pastButton, pastAxis}
 use Rattle.rules.specs.Step.{pushesOf, flagsSet, pushedOf, filteredIn, filteredHub}
 use Rattle.columns.specs.Columns.{elementsOf, buttonsOf, axesOf}
@@ -41,23 +38,11 @@ pub record ServedIs
   pub flags-are : flags' ≡ flagsSet flags (d .event .pad) (nameOf (d .event)) (filteredOf on v (d .event) .flags)
   pub queued : Pushed vs ts bs cs head waiting (pushesOf d (filteredOf on v (d .event) .gives)) vs' ts' bs' cs' (r .waiting)
 
--- the record's own event, where there is one, then the filters'
-abbrev pub ownFirst : Bool → Event → List Event
-ownFirst follows next = cond follows (next ∷ []) []
-
-own-then : (follows : Bool) (next : Event) (es : List Event) → ownFirst follows next ++ es ≡ cond follows (next ∷ es) es
-own-then true next es = refl
-own-then false next es = refl
-
-pushes-are : (d : Dispatched) (g : Gives) → ownFirst (d .follows) (d .next) ++ queuedOf g ≡ pushesOf d g
-unfolding pushesOf
-pushes-are d g = own-then (d .follows) (d .next) (queuedOf g)
-
 -- ---- an event at which no filter looks
 
-alone-pushes : (d : Dispatched) (v : View) → ownFirst (d .follows) (d .next) ≡ pushesOf d (unfiltered v (d .event) .gives)
-unfolding queuedOf
-alone-pushes d v = sym (append-nil (ownFirst (d .follows) (d .next))) ∙ pushes-are d (unfiltered v (d .event) .gives)
+alone-pushes : (d : Dispatched) (v : View) → eventIf (d .follows) (d .next) ≡ pushesOf d (unfiltered v (d .event) .gives)
+unfolding pushesOf
+alone-pushes d v = sym (append-nil (eventIf (d .follows) (d .next)))
 
 module _ (on : Bool) (m : Hub) (d : Dispatched) {vs vs' : List Float} {ts bs cs ts' bs' cs' : List ℕ} {head waiting more : ℕ} where
   pub serves-unseen :
@@ -65,7 +50,7 @@ module _ (on : Bool) (m : Hub) (d : Dispatched) {vs vs' : List Float} {ts bs cs 
       place ≡ placeOf (m .codes) (d .event .pad) (codeOf (d .event)) →
       looks ≡ concernsOf (d .event) (eqb (getD (m .kinds) place 0) elementAxis) →
       looks ≡ false →
-      Pushed vs ts bs cs head waiting (ownFirst (d .follows) (d .next)) vs' ts' bs' cs' more →
+      Pushed vs ts bs cs head waiting (eventIf (d .follows) (d .next)) vs' ts' bs' cs' more →
       ServedIs on (viewOf m (d .event)) d (m .flags) head waiting vs ts bs cs (record { event = d .event; waiting = more }) (m .flags) vs' ts' bs' cs'
   serves-unseen ep el off p =
       let e = d .event in
@@ -82,17 +67,18 @@ module _ (on : Bool) (m : Hub) (d : Dispatched) {vs vs' : List Float} {ts bs cs 
 serves-sent :
     (on : Bool) (v : View) (d : Dispatched) (flags : List Bool) {f : FilteredEvent} {both : List Bool} {vs vs1 vs2 : List Float}
     {ts bs cs ts1 bs1 cs1 ts2 bs2 cs2 : List ℕ} {head waiting more all : ℕ} →
-    Pushed vs ts bs cs head waiting (ownFirst (d .follows) (d .next)) vs1 ts1 bs1 cs1 more →
+    Pushed vs ts bs cs head waiting (eventIf (d .follows) (d .next)) vs1 ts1 bs1 cs1 more →
     FilteredEventIs on v (d .event) f →
     both ≡ flagsSet flags (d .event .pad) (nameOf (d .event)) (f .flags) →
     Pushed vs1 ts1 bs1 cs1 head more (waitsBehind v (d .event) f (f .count)) vs2 ts2 bs2 cs2 all →
     ServedIs on v d flags head waiting vs ts bs cs (record { event = f .event; waiting = all }) both vs2 ts2 bs2 cs2
+unfolding pushesOf
 serves-sent on v d flags first sent ef rest =
     let e = d .event in
     record {
       event = ap (λ (s : FilteredEvent). s .event) (sent .is) ∙ sent-event on v e;
       flags-are = ef ∙ ap (flagsSet flags (e .pad) (nameOf e)) (ap (λ (s : FilteredEvent). s .flags) (sent .is) ∙ sent-flags on v e);
-      queued = rw (← pushes-are d (filteredOf on v e .gives), ← all-behind on v e sent) (pushed-then first rest);
+      queued = rw (← all-behind on v e sent) (pushed-then first rest);
     }
 
 pub serves-seen :
@@ -101,7 +87,7 @@ pub serves-seen :
     m .elements ≡ elementsOf vs ms →
     m .buttons ≡ buttonsOf vs ts ms →
     m .axes ≡ axesOf vs ts →
-    Pushed vs ts bs cs head waiting (ownFirst (d .follows) (d .next)) vs1 ts1 bs1 cs1 more →
+    Pushed vs ts bs cs head waiting (eventIf (d .follows) (d .next)) vs1 ts1 bs1 cs1 more →
     name ≡ nameOf (d .event) →
     code ≡ codeOf (d .event) →
     SeenIn m (d .event) name code s →

@@ -1,19 +1,18 @@
 -- What waits behind an event that the filters sent, told one by one and pushed one by one: all of it is the queue that the law book lists.
-use Prim.Native.Nat.{ℕ, zero, suc, _+_, _≤_, _<_}
+use Prim.Native.Nat.{ℕ, zero, suc, _+_, _≤_}
 use mathlib.Core.Path.{_≡_, refl, _∙_, ap}
 use mathlib.Core.Bool.{Bool}
 use mathlib.Core.List.{List, [], _∷_, _++_}
 use lib.ListN.{length, take}
-use lib.Seq.{take-suc}
+use lib.Seq.{take-suc, take-length}
 use lib.Ieee.{Float}
 use native.Mathlib.Omega.{arith}
 use native.Mathlib.Numerals.{add-one}
 use Rattle.rules.specs.declared.Event.{Event}
 use Rattle.rules.specs.declared.View.{View}
-use Rattle.rules.specs.Events.{queuedOf}
 use Rattle.rules.specs.Filters.{filteredOf}
 use Rattle.filters.specs.declared.FilteredEvent.{FilteredEvent}
-use Rattle.filters.specs.FilteredEvent.{FilteredEventIs, filteredEventOf, queuedBehindOf, behind-is, sent-count, filtered-four}
+use Rattle.filters.specs.FilteredEvent.{FilteredEventIs, filteredEventOf, queuedBehindOf, behind-is, sent-count}
 use Rattle.queueing.specs.Queued.{Pushed, pushed-then}
 
 -- the first n events that wait behind an event
@@ -34,21 +33,18 @@ pushed-more v e s x done eu p = rw (add-one, ← add-one, ← eu) (pushed-then d
 
 first-behind :
     (on : Bool) (v : View) (e : Event) (n : ℕ) →
-    n ≤ filteredOf on v e .gives .count →
-    filteredOf on v e .gives .count ≤ 4 →
+    n ≤ length (filteredOf on v e .gives .queued) →
     waitsBehind v e (filteredEventOf on v e) n ≡ take n (filteredOf on v e .gives .queued)
 unfolding waitsBehind
-first-behind on v e zero few four = refl
-first-behind on v e (suc n) few four =
-    let queued = filteredOf on v e .gives .queued in
-    let room : n < length queued = rw (filtered-four on v e) (omega arith) in
-    rw (first-behind on v e n (omega arith) four, behind-is e on e v e (suc n) few, take-suc queued n e room)
+first-behind on v e zero few = refl
+first-behind on v e (suc n) few =
+    rw (first-behind on v e n (omega arith), behind-is e on e v e (suc n) few, take-suc (filteredOf on v e .gives .queued) n e few)
 
 -- all of them: the law book's queue
 pub all-behind :
-    (on : Bool) (v : View) (e : Event) {s : FilteredEvent} → FilteredEventIs on v e s → waitsBehind v e s (s .count) ≡ queuedOf (filteredOf on v e .gives)
-unfolding queuedOf
+    (on : Bool) (v : View) (e : Event) {s : FilteredEvent} → FilteredEventIs on v e s → waitsBehind v e s (s .count) ≡ filteredOf on v e .gives .queued
 all-behind on v e {s} sent =
-    let count : s .count ≡ filteredOf on v e .gives .count = ap (λ (x : FilteredEvent). x .count) (sent .is) ∙ sent-count on v e in
+    let queued = filteredOf on v e .gives .queued in
+    let count : s .count ≡ length queued = ap (λ (x : FilteredEvent). x .count) (sent .is) ∙ sent-count on v e in
     ap (λ (x : FilteredEvent). waitsBehind v e x (s .count)) (sent .is) ∙ ap (waitsBehind v e (filteredEventOf on v e)) count
-    ∙ first-behind on v e (filteredOf on v e .gives .count) (omega arith) (omega (arith, sent .small))
+    ∙ first-behind on v e (length queued) (omega arith) ∙ take-length queued

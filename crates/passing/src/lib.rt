@@ -5,14 +5,14 @@ ghost use mathlib.Core.Path.{_≡_};
 ghost use lib.ListN.{getD};
 ghost use lib.Dec.{eqb};
 ghost use Rattle.rules.specs.Sheets.{elementAxis};
-ghost use Rattle.rules.specs.Events.{codeOf};
+ghost use Rattle.rules.specs.Events.{codeOf, eventIf};
 ghost use Rattle.rules.specs.Hub.{viewOf};
 ghost use Rattle.pad.specs.Found.{Placed};
 ghost use Rattle.columns.specs.Columns.{elementsOf, buttonsOf, axesOf};
 ghost use Rattle.queueing.specs.Queued.{Pushed};
 ghost use Rattle.taking.specs.Taking.{givesOf};
 ghost use Rattle.passing.specs.Passing.{concernsOf, seenHub, MarkedIs};
-ghost use Rattle.passing.specs.Served.{ownFirst, ServedIs};
+ghost use Rattle.passing.specs.Served.{ServedIs};
 use columns::Marks;
 use columns::QueueBytes;
 use columns::QueueCodes;
@@ -82,7 +82,7 @@ fn push_next(
     t: Taken,
 ) -> u8
     ensures { λ r. ⌜ Pushed (now (values .entry)) (now (times .entry)) (now (queuebytes .entry)) (now (queuecodes .entry)) (t .head) (t .waiting)
-        (ownFirst (t .follows) (t .next))
+        (eventIf (t .follows) (t .next))
         (now (values .exit)) (now (times .exit)) (now (queuebytes .exit)) (now (queuecodes .exit)) r ⌝ }
 {
     if t.follows {

@@ -12,10 +12,9 @@ use Rattle.rules.specs.declared.Event.{Event}
 use Rattle.rules.specs.declared.RawRecord.{RawRecord}
 use Rattle.rules.specs.declared.NextRecord.{NextRecord}
 use Rattle.rules.specs.declared.Dispatched.{Dispatched}
-use Rattle.rules.specs.declared.Filtered.{Filtered}
 use Rattle.rules.specs.Names.{placesPerPad, flagsPerPad, queueRoom}
 use Rattle.rules.specs.Places.{placeOf, clearedOf, oneIf}
-use Rattle.rules.specs.Filters.{keptOf}
+use Rattle.rules.specs.Filters.{Filtered, keptOf}
 use Rattle.rules.specs.Setters.{withMarks, withState, withFlags, withQueue}
 use Rattle.rules.specs.Hub.{frontOf, pressedAt, pastSlot, pastElement, pastButton}
 use Rattle.rules.specs.Step.{nextRecordOf, takenOf, recordGives, markedOf, connectedAfter, renamedAfter, marksCleared, headAfter, pushedOf, filteredIn, filteredHub, stepEvent, stepHub, updatedOf}

@@ -1,10 +1,9 @@
 -- Events: their numbers, how one waits in the queue and comes back, its bytes, and what an event with others queued behind it is.
 -- Definitions only.
-use Prim.Native.Nat.{ℕ, _%_}
-use mathlib.Core.Bool.{Bool, true, false, cond, not, _&&_}
+use Prim.Native.Nat.{ℕ}
+use mathlib.Core.Bool.{Bool, true, false, cond}
 use mathlib.Core.List.{List, [], _∷_}
-use lib.ListN.{take}
-use lib.Dec.{eqb, ltb}
+use lib.Dec.{eqb}
 use lib.Ieee.{Float, binary32, ofBits, toBits}
 use Rattle.numbers.specs.Constants.{zero32}
 use Rattle.rules.specs.declared.Event.{Event}
@@ -12,7 +11,6 @@ use Rattle.rules.specs.declared.EventType.{EventType}
 use Rattle.rules.specs.declared.EventType.the-variants.{Pressed, Released, Repeated, Changed, Axis, Connected, Disconnected, Dropped}
 use Rattle.rules.specs.declared.EventForm.{EventForm}
 use Rattle.rules.specs.declared.Slot.{Slot}
-use Rattle.rules.specs.declared.Gives.{Gives}
 use Rattle.rules.specs.Names.{noName}
 use Rattle.rules.specs.Forms.{formBytes, eventPressed, eventReleased, eventRepeated, eventChanged, eventAxis, eventConnected, eventDisconnected, eventDropped}
 
@@ -131,17 +129,21 @@ dropped e = record { pad = e .pad; time = e .time; event = Dropped }
 abbrev pub with : Event → EventType → Event
 with e t = record { pad = e .pad; time = e .time; event = t }
 
--- ---- an event and what is queued behind it
+-- ---- an event and what is queued behind it, in order
+
+pub record Gives : Type 0 where
+  pub event : Event
+  pub queued : List Event
+
+-- an event to queue, where there is one
+abbrev pub eventIf : Bool → Event → List Event
+eventIf there e = cond there (e ∷ []) []
 
 abbrev pub alone : Event → Gives
-alone e = record { event = e; count = 0; queued = e ∷ e ∷ e ∷ e ∷ [] }
+alone e = record { event = e; queued = [] }
 
 abbrev pub followed : Event → Event → Gives
-followed e a = record { event = e; count = 1; queued = a ∷ a ∷ a ∷ a ∷ [] }
+followed e a = record { event = e; queued = a ∷ [] }
 
 abbrev pub followedByThree : Event → Event → Event → Event → Gives
-followedByThree e a b c = record { event = e; count = 3; queued = a ∷ b ∷ c ∷ c ∷ [] }
-
--- the queued events, in order
-unfoldable pub queuedOf : Gives → List Event
-queuedOf g = take (g .count) (g .queued)
+followedByThree e a b c = record { event = e; queued = a ∷ b ∷ c ∷ [] }

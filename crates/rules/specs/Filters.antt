@@ -1,9 +1,8 @@
 -- The filters in their order, dpad, jitter, deadzone, on what each sees of the hub: gilrs's `axis_dpad_to_button`, `Jitter` and `deadzone`.
 -- Definitions only.
-use Prim.Native.Nat.{ℕ, _+_}
+use Prim.Native.Nat.{ℕ}
 use mathlib.Core.Bool.{Bool, true, false, cond, not, _&&_}
-use mathlib.Core.List.{List, [], _∷_}
-use lib.ListN.{set}
+use mathlib.Core.List.{_++_}
 use lib.Ieee.{Float, eq, ne}
 use Rattle.numbers.specs.Constants.{zero32, one32, minusOne32}
 use Rattle.numbers.specs.Deadzone.{deadzoneOf}
@@ -14,12 +13,9 @@ use Rattle.rules.specs.declared.EventType.{EventType}
 use Rattle.rules.specs.declared.EventType.the-variants.{Pressed, Released, Repeated, Changed, Axis, Connected, Disconnected, Dropped}
 use Rattle.rules.specs.declared.View.{View}
 use Rattle.rules.specs.declared.Flags.{Flags}
-use Rattle.rules.specs.declared.Gives.{Gives}
 use Rattle.rules.specs.declared.Zoned.{Zoned}
-use Rattle.rules.specs.declared.Filtered.{Filtered}
 use Rattle.rules.specs.Names.{isHat, positiveName, negativeName, positiveCode, negativeCode, partnerOf}
-use Rattle.rules.specs.Places.{oneIf}
-use Rattle.rules.specs.Events.{alone, followed, followedByThree, with, dropped, isDropped}
+use Rattle.rules.specs.Events.{Gives, eventIf, alone, followed, followedByThree, with, dropped, isDropped}
 
 -- ---- dpad
 
@@ -149,13 +145,14 @@ deadzonedOf v e = deadzoneType (e .event) v e
 
 -- ---- "The event then passes the filters, if on, in the order dpad, jitter, deadzone"
 
+-- what the filters make of an event: the event or Dropped, the events to queue, and the two flags after
+pub record Filtered : Type 0 where
+  pub gives : Gives
+  pub flags : Flags
+
 -- what dpad queued, then the clearing event
 unfoldable pub joined : Gives → Zoned → Filtered
-joined g z =
-    record {
-      gives = record { event = z .event; count = g .count + oneIf (z .clears); queued = set (g .queued) (g .count) (z .clearing) };
-      flags = z .flags;
-    }
+joined g z = record { gives = record { event = z .event; queued = g .queued ++ eventIf (z .clears) (z .clearing) }; flags = z .flags }
 
 -- with the filters off an event passes as it is
 abbrev pub unfiltered : View → Event → Filtered

@@ -1,10 +1,10 @@
 -- A step: it takes the queue's front, else the next raw record; the event passes the filters; what they queue waits; and the state is updated.
 -- Each stage sets the fields that it means. Definitions only.
-use Prim.Native.Nat.{ℕ, zero, suc, _+_, _-_, _*_, _%_}
+use Prim.Native.Nat.{ℕ, _+_, _-_, _*_, _%_}
 use mathlib.Core.Bool.{Bool, true, false, cond, not, _&&_, _||_}
-use mathlib.Core.List.{List, [], _∷_, _++_}
-use lib.ListN.{length, getD, set}
-use lib.Dec.{eqb, ltb, leb}
+use mathlib.Core.List.{List, _++_}
+use lib.ListN.{set}
+use lib.Dec.{eqb, ltb}
 use lib.IntN.{pos}
 use Rattle.rules.specs.declared.Hub.{Hub}
 use Rattle.rules.specs.declared.Event.{Event}
@@ -14,15 +14,13 @@ use Rattle.rules.specs.declared.RecordRead.the-variants as recordRead
 use Rattle.rules.specs.declared.NextRecord.{NextRecord}
 use Rattle.rules.specs.declared.Dispatched.{Dispatched}
 use Rattle.rules.specs.declared.Flags.{Flags}
-use Rattle.rules.specs.declared.Gives.{Gives}
-use Rattle.rules.specs.declared.Filtered.{Filtered}
 use Rattle.rules.specs.Names.{placesPerPad, flagsPerPad, partnerOf, queueRoom}
 use Rattle.rules.specs.Forms.{readRecord, kindConnected, kindDisconnected}
 use Rattle.rules.specs.Refusals.{recordRefusal}
 use Rattle.rules.specs.Places.{placeOf, presentNames, clearedOf}
-use Rattle.rules.specs.Events.{nameOf, codeOf, queuedOf}
+use Rattle.rules.specs.Events.{Gives, eventIf, nameOf, codeOf}
 use Rattle.rules.specs.Dispatch.{dispatchOf, single}
-use Rattle.rules.specs.Filters.{filteredOf}
+use Rattle.rules.specs.Filters.{Filtered, filteredOf}
 use Rattle.rules.specs.State.{buttonAfter, axisAfter, writesButton, writesAxis}
 use Rattle.rules.specs.Setters.{withMarks, withState, withFlags, withQueue}
 use Rattle.rules.specs.Hub.{placeIn, nameIn, kindAt, elementAt, buttonAt, axisAt, hasButtonAt, hasAxisAt, pressedAt, frontOf, flagPlace, viewOf, queueAfter, waitingAfter}
@@ -93,8 +91,7 @@ markedOf h r =
 -- ---- what waits behind the event: the record's own, then the filters'
 
 unfoldable pub pushesOf : Dispatched → Gives → List Event
-unfolding queuedOf
-pushesOf d g = cond (d .follows) (d .next ∷ queuedOf g) (queuedOf g)
+pushesOf d g = eventIf (d .follows) (d .next) ++ g .queued
 
 unfoldable pub flagsSet : List Bool → ℕ → ℕ → Flags → List Bool
 unfolding flagPlace partnerOf

@@ -195,13 +195,6 @@ pub struct Dispatched {
     pub next: Event,
 }
 
-// An event handed on, and the events queued behind it, in order: the first `count` of `queued`.
-pub struct Gives {
-    pub event: Event,
-    pub count: u8,
-    pub queued: [Event; 4],
-}
-
 // The deadzone flags of an axis and of its partner: whether a value other than 0 was sent last.
 pub struct Flags {
     pub own: bool,
@@ -235,12 +228,6 @@ pub struct Zoned {
     pub event: Event,
     pub clears: bool,
     pub clearing: Event,
-    pub flags: Flags,
-}
-
-// What the filters make of an event: the event or Dropped, the events to queue, and the two flags after.
-pub struct Filtered {
-    pub gives: Gives,
     pub flags: Flags,
 }
 

@@ -6,7 +6,7 @@ use mathlib.Core.List.{List, [], _∷_, _++_}
 use mathlib.Core.Path.{_≡_, refl}
 use lib.Dec.{eqb}
 use lib.Ieee.{Float, eq, le}
-use lib.ListN.{length, take, set}
+use lib.ListN.{length}
 use native.Mathlib.Omega.{arith}
 use borrow.Author.Tests.{eqb-true}
 use Rattle.numbers.specs.Constants.{zero32, one32, minusOne32}
@@ -17,13 +17,11 @@ use Rattle.rules.specs.declared.Event.{Event}
 use Rattle.rules.specs.declared.EventType.{EventType}
 use Rattle.rules.specs.declared.EventType.the-variants.{Pressed, Released, Repeated, Changed, Axis, Connected, Disconnected, Dropped}
 use Rattle.rules.specs.declared.View.{View}
-use Rattle.rules.specs.declared.Gives.{Gives}
 use Rattle.rules.specs.declared.RawRecord.{RawRecord}
 use Rattle.rules.specs.declared.Element.{Element}
 use Rattle.rules.specs.declared.Dispatched.{Dispatched}
 use Rattle.rules.specs.Names.{isHat, isAxis, isButton, partnerOf, positiveName, negativeName, positiveCode, negativeCode, leftStickX, leftStickY, rightStickX, rightStickY, dpadX, dpadY}
-use Rattle.rules.specs.Places.{oneIf}
-use Rattle.rules.specs.Events.{alone, dropped, queuedOf}
+use Rattle.rules.specs.Events.{Gives, eventIf, alone, dropped}
 use Rattle.rules.specs.Filters.{Direction, hatBy, hatGives, dpadType, dpadOf, jitteredOf, deadzonedOf, clearsPartner, stickZoned, buttonZoned, shrunk, joined, filteredOf}
 use Rattle.rules.specs.Dispatch.{Move, pressing, moving, joining, leaving, moveOf, axisName, pressGives, triggerBy, triggerGives, moveGives, dispatchBy, dispatchOf}
 use Rattle.rules.specs.Step.{pushesOf}
@@ -106,11 +104,11 @@ partner-hat n =
 
 -- what waits behind an event once the filters that follow the dpad are through
 abbrev behind : View → Gives → List Event
-behind v g = queuedOf (joined g (deadzonedOf v (jitteredOf v (g .event))) .gives)
+behind v g = joined g (deadzonedOf v (jitteredOf v (g .event))) .gives .queued
 
 -- what the dpad makes of a hat's axis event weighs at most 3, and the other filters add nothing
 hat-light : (o m p q : Bool) (v : View) (e : Event) (plus minus : Direction) → weigh (behind v (hatBy o m p q e plus minus)) ≤ 3
-unfolding hatBy queuedOf joined deadzonedOf jitteredOf weigh weightOf
+unfolding hatBy joined deadzonedOf jitteredOf weigh weightOf
 hat-light true m p false v e plus minus = omega arith
 hat-light true m p true v e plus minus = omega arith
 hat-light false true false q v e plus minus = omega arith
@@ -130,22 +128,22 @@ module _ (v : View) (pad time n c : ℕ) (x : Float) where
 
   -- an axis event that the dpad leaves alone: at most the clearing event, which weighs as much
   stick-light : weigh (behind v (alone hasaxis)) ≤ cond (isHat n) hatWeight 1
-  unfolding queuedOf joined deadzonedOf jitteredOf stickZoned weigh weightOf
+  unfolding joined deadzonedOf jitteredOf stickZoned weigh weightOf
   stick-light = by-jitter (v .stored && jitterOf x (v .stick))
     where
       by-clears : (clears : Bool)
-          → weigh (take (0 + oneIf clears) (set (hasaxis ∷ hasaxis ∷ hasaxis ∷ hasaxis ∷ []) 0 (record { pad = pad; time = time; event = Axis (partnerOf n) (v .partner .code) zero32 })))
+          → weigh (eventIf clears (record { pad = pad; time = time; event = Axis (partnerOf n) (v .partner .code) zero32 }))
           ≤ cond (isHat n) hatWeight 1
       by-clears true = rw (partner-hat n) (omega arith)
       by-clears false = omega arith
 
       by-dead : (dead : Bool)
-          → weigh (queuedOf (joined (alone hasaxis) (cond dead (stickZoned v hasaxis n c (shrunk v x)) (record { event = hasaxis; clears = false; clearing = hasaxis; flags = v .flags })) .gives))
+          → weigh (joined (alone hasaxis) (cond dead (stickZoned v hasaxis n c (shrunk v x)) (record { event = hasaxis; clears = false; clearing = hasaxis; flags = v .flags })) .gives .queued)
           ≤ cond (isHat n) hatWeight 1
       by-dead true = by-clears (clearsPartner v (shrunk v x))
       by-dead false = omega arith
 
-      by-jitter : (jitters : Bool) → weigh (queuedOf (joined (alone hasaxis) (deadzonedOf v (cond jitters (dropped hasaxis) hasaxis)) .gives)) ≤ cond (isHat n) hatWeight 1
+      by-jitter : (jitters : Bool) → weigh (joined (alone hasaxis) (deadzonedOf v (cond jitters (dropped hasaxis) hasaxis)) .gives .queued) ≤ cond (isHat n) hatWeight 1
       by-jitter true = omega arith
       by-jitter false = by-dead (v .dead)
 
@@ -158,20 +156,20 @@ module _ (v : View) (pad time n c : ℕ) (x : Float) where
 
 -- a button's value: the deadzone has nothing to clear
 value-light : (v : View) (pad time n c : ℕ) (x : Float) → weigh (behind v (alone (record { pad = pad; time = time; event = Changed n c x }))) ≤ 1
-unfolding queuedOf joined deadzonedOf jitteredOf buttonZoned weigh
+unfolding joined deadzonedOf jitteredOf buttonZoned weigh
 value-light v pad time n c x = by (v .dead)
   where
     e : Event
     e = record { pad = pad; time = time; event = Changed n c x }
 
     by : (dead : Bool)
-        → weigh (queuedOf (joined (alone e) (cond dead (buttonZoned v e n c (deadzoneOf x zero32 (v .threshold) .x)) (record { event = e; clears = false; clearing = e; flags = v .flags })) .gives))
+        → weigh (joined (alone e) (cond dead (buttonZoned v e n c (deadzoneOf x zero32 (v .threshold) .x)) (record { event = e; clears = false; clearing = e; flags = v .flags })) .gives .queued)
         ≤ 1
     by true = omega arith
     by false = omega arith
 
 type-light : (v : View) (pad time : ℕ) (t : EventType) → weigh (behind v (dpadType t v (record { pad = pad; time = time; event = t }))) ≤ weightType t
-unfolding queuedOf joined deadzonedOf jitteredOf weigh
+unfolding joined deadzonedOf jitteredOf weigh
 type-light v pad time (Axis n c x) = axis-light v pad time n c x (v .converts && isHat n) refl
 type-light v pad time (Changed n c x) = value-light v pad time n c x
 type-light v pad time (Pressed n c) = omega arith
@@ -182,10 +180,10 @@ type-light v pad time Disconnected = omega arith
 type-light v pad time Dropped = omega arith
 
 -- what the filters queue weighs at most what the event weighed
-pub filters-light : (on : Bool) (v : View) (e : Event) → weigh (queuedOf (filteredOf on v e .gives)) ≤ weightOf e
+pub filters-light : (on : Bool) (v : View) (e : Event) → weigh (filteredOf on v e .gives .queued) ≤ weightOf e
 unfolding filteredOf dpadOf weightOf
 filters-light true v e = type-light v (e .pad) (e .time) (e .event)
-filters-light false v e = unfold queuedOf weigh in omega arith
+filters-light false v e = unfold weigh in omega arith
 
 -- ---- what a record brings: its event, and the one behind it
 
@@ -236,7 +234,7 @@ pushes-light d on v =
     by (d .follows)
   where
     by : (follows : Bool)
-        → weigh (cond follows (d .next ∷ queuedOf (filteredOf on v (d .event) .gives)) (queuedOf (filteredOf on v (d .event) .gives)))
+        → weigh (eventIf follows (d .next) ++ filteredOf on v (d .event) .gives .queued)
         ≤ weightOf (d .event) + cond follows (weightOf (d .next)) 0
     by true = unfold weigh in omega (arith, filters-light on v (d .event))
     by false = omega (arith, filters-light on v (d .event))

@@ -16,7 +16,7 @@ use Rattle.rules.specs.Hub.{slotAt}
 use Rattle.pad.specs.Found.{Placed, Named}
 use Rattle.gather.specs.EventPlaces.{PlaceIs, FoundIs, EventPlacesAre}
 use Rattle.rules.specs.Hub.{hatPlaceOf, partnerPlaceOf}
-use Rattle.filters.specs.Converted.{Converted}
+use Rattle.filters.specs.Converted.{ConvertedIs}
 use Rattle.filters.specs.FilteredEvent.{FilteredEventIs}
 use Rattle.turn.specs.Turn.{RingIs}
 use Rattle.lines.specs.Text.{numberText, hexText, wordOf, lineOf, stoppedLine, heldOf, linesOf}
@@ -63,7 +63,7 @@ unique-event-places codes kinds names renames renamed converts newconverts hasbu
 
 -- ---- hats, filters: what they give, and how many events they queue at most
 
-pub unique-dpad : (v : View) (e : Event) → One (Converted v e)
+pub unique-dpad : (v : View) (e : Event) → One (ConvertedIs v e)
 unique-dpad v e = one-owed _ (λ r w. w .is)
 
 pub unique-filter : (on : Bool) (v : View) (e : Event) → One (FilteredEventIs on v e)

@@ -1,4 +1,4 @@
--- `filter` meets its contract: what the three filters ensure, each put into the next; the count is a law of the definition (`Behind`).
+-- `filter` meets its contract: what the three filters ensure, each put into the next; the count is a law of the definition (`FilteredEvent`).
 use borrow.Author.Needs.{needs}
 use Rattle.filters.specs.FilteredEvent.{filteredEventOf, sent}
 use Rattle.filters.proofs.filter.Statement.{statement}

@@ -9,7 +9,7 @@ use Rattle.numbers.specs.Constants.{one32, minusOne32}
 use Rattle.rules.specs.declared.Event.{Event}
 use Rattle.rules.specs.declared.EventType.the-variants.{Pressed, Released, Repeated, Changed, Axis, Connected, Disconnected, Dropped}
 use Rattle.rules.specs.declared.EventForm.{EventForm}
-use Rattle.rules.specs.Events.{kindOf, nameOf, codeOf, slotOf, eventOf, formOf, formEvent, eventBytes, isDropped, alone, followed, followedByThree, queuedOf}
+use Rattle.rules.specs.Events.{kindOf, nameOf, codeOf, slotOf, eventOf, formOf, formEvent, eventBytes, isDropped, eventIf, alone, followed, followedByThree}
 use Rattle.rules.specs.Examples.Table.{_is_, Right, event}
 
 -- one event of each kind, in 01's order
@@ -72,10 +72,11 @@ drops = refl
 -- what is queued behind an event, in order
 queued :
     Right (
-    queuedOf (alone (event 7 Connected)) is []
-    ∷ queuedOf (followed (event 7 Connected) (event 8 Dropped)) is (event 8 Dropped ∷ [])
-    ∷ queuedOf (followedByThree (event 7 Connected) (event 1 Dropped) (event 2 Dropped) (event 3 Dropped))
+    eventIf true (event 7 Connected) is (event 7 Connected ∷ [])
+    ∷ eventIf false (event 7 Connected) is []
+    ∷ alone (event 7 Connected) .queued is []
+    ∷ followed (event 7 Connected) (event 8 Dropped) .queued is (event 8 Dropped ∷ [])
+    ∷ followedByThree (event 7 Connected) (event 1 Dropped) (event 2 Dropped) (event 3 Dropped) .queued
     is (event 1 Dropped ∷ event 2 Dropped ∷ event 3 Dropped ∷ [])
     ∷ [])
-unfolding queuedOf
 queued = refl

@@ -12,11 +12,9 @@ use Rattle.rules.specs.declared.EventType.the-variants.{Pressed, Release
 use Rattle.rules.specs.declared.View.{View}
 use Rattle.rules.specs.declared.Flags.{Flags}
 use Rattle.rules.specs.declared.Partner.{Partner}
-use Rattle.rules.specs.declared.Gives.{Gives}
-use Rattle.rules.specs.declared.Filtered.{Filtered}
 use Rattle.rules.specs.Names.{codeUp, codeDown, codeLeft, codeRight, dpadUp, dpadDown, dpadLeft, dpadRight, dpadX, dpadY, leftStickX, leftStickY}
-use Rattle.rules.specs.Events.{queuedOf}
-use Rattle.rules.specs.Filters.{dpadOf, jitteredOf, filteredOf, keptOf}
+use Rattle.rules.specs.Events.{Gives}
+use Rattle.rules.specs.Filters.{Filtered, dpadOf, jitteredOf, filteredOf, keptOf}
 use Rattle.rules.specs.Examples.Table.{_is_, Right, event, half32, threeQuarters32}
 
 -- ---- what a filter may see
@@ -77,7 +75,7 @@ deadView dead own partner flags =
 
 -- an event and what is queued behind it
 sent : Gives → List Event
-sent g = g .event ∷ queuedOf g
+sent g = g .event ∷ g .queued
 
 events : List EventType → List Event
 events ts = map (event 7) ts
@@ -123,7 +121,7 @@ hat-x :
     ∷ Changed dpadLeft codeLeft zero32
     ∷ [])
     ∷ [])
-unfolding hat hatView apart flagged sent events queuedOf dpadOf Ieee.ofBits Ieee.eq
+unfolding hat hatView apart flagged sent events dpadOf Ieee.ofBits Ieee.eq
 hat-x = refl
 
 -- DPadY: 1.0 is Up
@@ -135,12 +133,12 @@ hat-y :
     ∷ hat dpadY zero32 true true
     is events (Released dpadDown codeDown ∷ Changed dpadUp codeUp zero32 ∷ Released dpadUp codeUp ∷ Changed dpadDown codeDown zero32 ∷ [])
     ∷ [])
-unfolding hat hatView apart flagged sent events queuedOf dpadOf Ieee.ofBits Ieee.eq
+unfolding hat hatView apart flagged sent events dpadOf Ieee.ofBits Ieee.eq
 hat-y = refl
 
 -- the value next below 1.0 releases
 nearly : hat dpadX (ofBits binary32 0x3f7fffff) true false ≡ events (Released dpadRight codeRight ∷ Changed dpadRight codeRight zero32 ∷ [])
-unfolding hat hatView apart flagged sent events queuedOf dpadOf Ieee.ofBits Ieee.eq
+unfolding hat hatView apart flagged sent events dpadOf Ieee.ofBits Ieee.eq
 nearly = refl
 
 -- a pad that does not convert, a stick, and an event of no axis pass
@@ -150,7 +148,7 @@ unconverted :
     ∷ sent (dpadOf (hatView true false false) (event 7 (Axis leftStickX 11 one32))) is events (Axis leftStickX 11 one32 ∷ [])
     ∷ sent (dpadOf (hatView true false false) (event 7 (Changed dpadLeft codeLeft one32))) is events (Changed dpadLeft codeLeft one32 ∷ [])
     ∷ [])
-unfolding hatView apart flagged sent events queuedOf dpadOf Ieee.ofBits Ieee.eq
+unfolding hatView apart flagged sent events dpadOf Ieee.ofBits Ieee.eq
 unconverted = refl
 
 -- ---- jitter: "An axis event, value not 0, closer than 0.01 to a stored axis value, is dropped"
@@ -212,7 +210,7 @@ zones :
     ∷ zone half32 (beside zero32) (flagged false true) (Axis leftStickX 11 threeQuarters32) is out (Dropped ∷ []) false true
     ∷ zone zero32 (beside one32) (flagged false true) (Axis leftStickX 11 one32) is out (Axis leftStickX 11 one32 ∷ []) true true
     ∷ [])
-unfolding zone out outcome sent queuedOf deadView beside quarter flagged filtered
+unfolding zone out outcome sent deadView beside quarter flagged filtered
 zones = refl
 
 -- the clearing event: both in the dead zone, the partner's flag up and its value not 0; queued also behind a dropped event; once, since the flag falls
@@ -226,7 +224,7 @@ clears :
     ∷ zone half32 (beside half32) (flagged true true) (Axis leftStickX 11 half32)
     is out (Axis leftStickX 11 (ofBits binary32 0x3e95f619) ∷ []) true true
     ∷ [])
-unfolding zone out outcome sent queuedOf deadView beside quarter flagged filtered
+unfolding zone out outcome sent deadView beside quarter flagged filtered
 clears = refl
 
 -- an axis whose partner no element has, LeftZ, which has none, and a trigger's value, whose flag and partner are not looked at
@@ -239,7 +237,7 @@ partnerless :
     ∷ zone half32 (beside quarter) (flagged true true) (Changed 8 11 threeQuarters32) is out (Dropped ∷ []) true true
     ∷ zone half32 (beside quarter) (flagged true true) (Changed 8 11 quarter) is out (Changed 8 11 zero32 ∷ []) true true
     ∷ [])
-unfolding zone out outcome sent queuedOf deadView beside apart quarter flagged filtered
+unfolding zone out outcome sent deadView beside apart quarter flagged filtered
 partnerless = refl
 
 -- "Elements without one pass", and so does an event of another kind
@@ -255,7 +253,7 @@ passing :
     ∷ zone zero32 (beside quarter) (flagged true true) (Repeated 8 11) is out (Repeated 8 11 ∷ []) true true
     ∷ zone zero32 (beside quarter) (flagged true true) Connected is out (Connected ∷ []) true true
     ∷ [])
-unfolding undeadened zone out outcome sent queuedOf deadView beside apart quarter flagged filtered
+unfolding undeadened zone out outcome sent deadView beside apart quarter flagged filtered
 passing = refl
 
 -- ---- "in the order dpad, jitter, deadzone", "if on"
@@ -274,7 +272,7 @@ order :
     ∷ filter true false zero32 (Axis leftStickX 11 threeQuarters32) is events (Axis leftStickX 11 half32 ∷ [])
     ∷ filter false true threeQuarters32 (Axis dpadX 11 threeQuarters32) is events (Axis dpadX 11 threeQuarters32 ∷ [])
     ∷ [])
-unfolding filter close storedView events apart flagged sent queuedOf filtered
+unfolding filter close storedView events apart flagged sent filtered
 order = refl
 
 -- "a dropped one is skipped (filters on)"

@@ -15,7 +15,7 @@ use Rattle.rules.specs.declared.RawRecord.{RawRecord}
 use Rattle.rules.specs.declared.View.{View}
 use Rattle.rules.specs.declared.Dispatched.{Dispatched}
 use Rattle.rules.specs.Names.{isAxis, isButton, isHat, isY, partnerOf, positiveName, negativeName, positiveCode, negativeCode}
-use Rattle.rules.specs.Events.{nameOf, queuedOf}
+use Rattle.rules.specs.Events.{nameOf}
 use Rattle.rules.specs.Hub.{flagPlace}
 use Rattle.rules.specs.Step.{flagsSet}
 use Rattle.rules.specs.Filters.{Direction, hatBy, hatGives, filteredOf}
@@ -36,8 +36,8 @@ none-left after = record { bound = 0; tail = buttons empty; few = omega arith }
 
 -- ---- a hat's events
 
-hat-few : (after : List Bool) (o m a b : Bool) (pad time n c : ℕ) (z : Float) (plus minus : Direction) → Few after (queuedOf (hatBy o m a b (ev pad time (Axis n c z)) plus minus))
-unfolding hatBy queuedOf
+hat-few : (after : List Bool) (o m a b : Bool) (pad time n c : ℕ) (z : Float) (plus minus : Direction) → Few after (hatBy o m a b (ev pad time (Axis n c z)) plus minus .queued)
+unfolding hatBy
 hat-few after true m a false pad time n c z plus minus = record { bound = 1; tail = buttons (more changed empty); few = omega arith }
 hat-few after true m a true pad time n c z plus minus =
     record { bound = 3; tail = buttons (more changed (more pressed (more changed empty))); few = omega arith }

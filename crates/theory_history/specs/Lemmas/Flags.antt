@@ -6,7 +6,7 @@ use mathlib.Core.List.{List, [], _∷_}
 use mathlib.Core.Path.{_≡_, refl, sym, _∙_, ap}
 use lib.Dec.{eqb, ltb}
 use lib.Ieee.{Float, eq, ne}
-use lib.ListN.{take, length, getD, set, List·getD-eq-default}
+use lib.ListN.{length, getD, set, List·getD-eq-default}
 use lib.Seq.{getD-set-same, getD-set-other, set-out}
 use native.Mathlib.Omega.{arith}
 use borrow.Author.Tests.{eqb-true, eqb-false, ltb-true, ltb-false}
@@ -20,7 +20,7 @@ use Rattle.rules.specs.declared.View.{View}
 use Rattle.rules.specs.declared.Zoned.{Zoned}
 use Rattle.rules.specs.Names.{isHat, partnerOf}
 use Rattle.rules.specs.Places.{oneIf}
-use Rattle.rules.specs.Events.{dropped, queuedOf}
+use Rattle.rules.specs.Events.{eventIf, dropped}
 use Rattle.rules.specs.Filters.{dpadOf, jitteredOf, deadzonedOf, stickZoned, shrunk, clearsPartner, flagsAfter, joined, filteredOf}
 use Rattle.theory_history.specs.Lemmas.Truth.{false-true}
 use Rattle.theory_history.specs.Lemmas.Turns.{ev, moreOf}
@@ -78,24 +78,24 @@ module _ (v : View) (pad time n c : ℕ) (x : Float) where
   zone dead = cond dead (stickZoned v hasaxis n c (shrunk v x)) (record { event = hasaxis; clears = false; clearing = hasaxis; flags = v .flags })
 
   sweeps-by : (cleared : Bool) → clearsPartner v (shrunk v x) ≡ cleared
-      → Sweeps (take (0 + oneIf cleared) (set (hasaxis ∷ hasaxis ∷ hasaxis ∷ hasaxis ∷ []) 0 (ev pad time (Axis (partnerOf n) (v .partner .code) zero32)))) (flagsAfter v (shrunk v x))
+      → Sweeps (eventIf cleared (ev pad time (Axis (partnerOf n) (v .partner .code) zero32))) (flagsAfter v (shrunk v x))
   sweeps-by true e = clears (pair-stands v (shrunk v x) e) (pair-costs v (shrunk v x) e)
   sweeps-by false e = nothing
 
-  zone-sweeps : (dead : Bool) → Sweeps (take (0 + oneIf (zone dead .clears)) (set (hasaxis ∷ hasaxis ∷ hasaxis ∷ hasaxis ∷ []) 0 (zone dead .clearing))) (zone dead .flags)
+  zone-sweeps : (dead : Bool) → Sweeps (eventIf (zone dead .clears) (zone dead .clearing)) (zone dead .flags)
   unfolding stickZoned
   zone-sweeps true = sweeps-by (clearsPartner v (shrunk v x)) refl
   zone-sweeps false = nothing
 
   jitter-sweeps : (jitters : Bool)
-      → Sweeps (take (0 + oneIf (deadzonedOf v (cond jitters (dropped hasaxis) hasaxis) .clears)) (set (hasaxis ∷ hasaxis ∷ hasaxis ∷ hasaxis ∷ []) 0 (deadzonedOf v (cond jitters (dropped hasaxis) hasaxis) .clearing)))
+      → Sweeps (eventIf (deadzonedOf v (cond jitters (dropped hasaxis) hasaxis) .clears) (deadzonedOf v (cond jitters (dropped hasaxis) hasaxis) .clearing))
       (deadzonedOf v (cond jitters (dropped hasaxis) hasaxis) .flags)
   unfolding deadzonedOf
   jitter-sweeps true = nothing
   jitter-sweeps false = zone-sweeps (v .dead)
 
   pub stick-sweeps : (v .converts && isHat n) ≡ false → Sweeps (moreOf v hasaxis) (filteredOf true v hasaxis .flags)
-  unfolding moreOf filteredOf joined dpadOf jitteredOf queuedOf
+  unfolding moreOf filteredOf joined dpadOf jitteredOf
   stick-sweeps free = rw free (jitter-sweeps (v .stored && jitterOf x (v .stick)))
 
 -- ---- the flags that are up of an axis and its partner, by their places

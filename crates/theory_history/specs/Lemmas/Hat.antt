@@ -7,9 +7,8 @@ use lib.Dec.{eqb}
 use lib.Ieee.{Float}
 use Rattle.rules.specs.declared.Event.{Event}
 use Rattle.rules.specs.declared.EventType.the-variants.{Axis}
-use Rattle.rules.specs.declared.Gives.{Gives}
 use Rattle.rules.specs.Places.{placeOf}
-use Rattle.rules.specs.Events.{codeOf, queuedOf, dropped}
+use Rattle.rules.specs.Events.{Gives, codeOf, dropped}
 use Rattle.rules.specs.State.{writesAxisType}
 use Rattle.rules.specs.Dispatch.{amount}
 use Rattle.rules.specs.Filters.{hatBy}
@@ -51,8 +50,8 @@ module _ (s : Sheet) (pad time n c : ℕ) (z : Float) (pn pc mn mc : ℕ) where
 
   -- up: the place is the positive direction's, else the negative one's
   hat-shows : (k : ℕ) (up : Bool) → On pc k up → On mc k (not up) → (o m a b : Bool) (x : Cell) → Shows x (cond up a b)
-      → Shows (writes s k (queuedOf (by o m a b)) (putAt s k (by o m a b .event) x)) (cond up o (not o && m))
-  unfolding hatBy queuedOf writes hits codeOf
+      → Shows (writes s k (by o m a b .queued) (putAt s k (by o m a b .event) x)) (cond up o (not o && m))
+  unfolding hatBy writes hits codeOf
   hat-shows k true p q true m a false x t = rw p (shown true)
   hat-shows k true p q true m a true x t = rw (p, q) (shown true)
   hat-shows k true p q false true false b x t = rw q t
@@ -71,7 +70,7 @@ module _ (s : Sheet) (pad time n c : ℕ) (z : Float) (pn pc mn mc : ℕ) where
   hat-shows k false p q false false true true x t = rw (p, q) (shown false)
 
   pub hat-turn : (k : ℕ) (up : Bool) → On pc k up → On mc k (not up) → (o m a b : Bool) (x : Cell) → Shows x (cond up a b)
-      → Turn s k (by o m a b .event) (queuedOf (by o m a b)) x (cond up o (not o && m))
+      → Turn s k (by o m a b .event) (by o m a b .queued) x (cond up o (not o && m))
   hat-turn k up p q o m a b x t =
       let hit = hits (s .codes) k (by o m a b .event) in
       record {
@@ -82,8 +81,8 @@ module _ (s : Sheet) (pad time n c : ℕ) (z : Float) (pn pc mn mc : ℕ) where
   -- ---- both, behind the event that goes out and behind those that it queues
 
   pub hat-never : (j k : ℕ) → On pc j true → On mc j false → On pc k false → On mc k true → (o m a b : Bool) (x y : Cell) → cellPressed x ≡ a → cellPressed y ≡ b
-      → Never s j k (queuedOf (by o m a b)) (putAt s j (by o m a b .event) x) (putAt s k (by o m a b .event) y)
-  unfolding hatBy queuedOf Never hits codeOf
+      → Never s j k (by o m a b .queued) (putAt s j (by o m a b .event) x) (putAt s k (by o m a b .event) y)
+  unfolding hatBy Never hits codeOf
   hat-never j k jp jm kp km true m a false x y p q = rw (jp, kp, q) (refl, refl)
   hat-never j k jp jm kp km true m a true x y p q = rw (jp, jm, kp, km) (and-false (cellPressed x), (and-false (cellPressed x), (refl, refl)))
   hat-never j k jp jm kp km false true false b x y p q = rw (jm, km, p) (refl, refl)

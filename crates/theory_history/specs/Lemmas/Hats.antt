@@ -17,11 +17,10 @@ use Rattle.rules.specs.declared.RawRecord.{RawRecord}
 use Rattle.rules.specs.declared.Element.{Element}
 use Rattle.rules.specs.declared.View.{View}
 use Rattle.rules.specs.declared.Dispatched.{Dispatched}
-use Rattle.rules.specs.declared.Gives.{Gives}
 use Rattle.rules.specs.Names.{nowhere, noName, placesPerPad, isHat, positiveCode, negativeCode, positiveName, negativeName}
 use Rattle.rules.specs.Forms.{kindPressed, kindAxis}
 use Rattle.rules.specs.Places.{placeOf}
-use Rattle.rules.specs.Events.{queuedOf, nameOf}
+use Rattle.rules.specs.Events.{Gives, nameOf}
 use Rattle.rules.specs.State.{readPressed}
 use Rattle.rules.specs.Dispatch.{pressing, moving, joining, leaving, moveOf, axisName, from, single, pressGives, moveGives}
 use Rattle.rules.specs.Filters.{hatBy, hatGives}
@@ -143,7 +142,7 @@ module _ (h : Hub) (w : Ready h) (desk : Desk h) (sound : Sound h) (p n : ℕ) (
         (record { name = negativeName n; code = negativeCode n })
 
     -- its events are what goes out and what is queued
-    made-as : (P : Event → List Event → Type 0) → P (made .event) (queuedOf made) → P (outBy h r) (queueBy h r)
+    made-as : (P : Event → List Event → Type 0) → P (made .event) (made .queued) → P (outBy h r) (queueBy h r)
     unfolding hatGives
     made-as P t =
         subst (λ (d : Dispatched). P (outOf (see (d .event)) (d .event)) (queueOf d (see (d .event)))) (sym (given-by (eqb (r .kind) kindAxis) refl))
@@ -180,7 +179,7 @@ module _ (h : Hub) (w : Ready h) (desk : Desk h) (sound : Sound h) (p n : ℕ) (
         → Turn s (place positive) (outBy h r) (queueBy h r) (cell positive) (eq to (pressingValue positive))
     move-turn positive found b shows =
         made-as (λ (out : Event) (q : List Event). Turn s (place positive) out q (cell positive) (eq to (pressingValue positive)))
-        (subst (Turn s (place positive) (made .event) (queuedOf made) (cell positive)) (presses positive to)
+        (subst (Turn s (place positive) (made .event) (made .queued) (cell positive)) (presses positive to)
         (hat-turn s (r .pad) (r .time) n (r .code) to (positiveName n) (positiveCode n) (negativeName n) (negativeCode n) (place positive) positive
         (on-plus positive found) (on-minus positive found) (eq to one32) (eq to minusOne32) (see e .positive) (see e .negative) (cell positive)
         (subst (Shows (cell positive)) (sym (shows .pressed) ∙ sym (reads positive)) shows)))

@@ -2,7 +2,7 @@
 -- updates on, and no pad renamed.
 use Prim.Native.Nat.{ℕ, _*_, _<_}
 use mathlib.Core.Bool.{Bool, true, false, cond, _||_}
-use mathlib.Core.List.{List, _∷_}
+use mathlib.Core.List.{List, _++_}
 use mathlib.Core.Path.{_≡_, refl, _∙_, ap}
 use lib.Dec.{eqb, ltb}
 use lib.ListN.{length, getD, set, length-set}
@@ -17,7 +17,7 @@ use Rattle.rules.specs.declared.Dispatched.{Dispatched}
 use Rattle.rules.specs.Names.{nowhere, placesPerPad}
 use Rattle.rules.specs.Forms.{kindConnected}
 use Rattle.rules.specs.Places.{clearedOf}
-use Rattle.rules.specs.Events.{queuedOf}
+use Rattle.rules.specs.Events.{eventIf}
 use Rattle.rules.specs.State.{writesAxisType}
 use Rattle.rules.specs.Filters.{filteredOf}
 use Rattle.rules.specs.Dispatch.{single}
@@ -80,11 +80,10 @@ module _ (h : Hub) (l : NextRecord) (w : Ready h) where
   unfolding stepEvent filteredIn outOf markedOf
   out-is = rw (w .filters)
 
-  pub pushes-are : pushesIn h l ≡ cond (takenOf h l .follows) (takenOf h l .next ∷ moreOf view event) (moreOf view event)
+  pub pushes-are : pushesIn h l ≡ eventIf (takenOf h l .follows) (takenOf h l .next) ++ moreOf view event
   unfolding pushesIn pushesOf filteredIn moreOf markedOf
   pushes-are =
-      ap (λ (on : Bool). cond (takenOf h l .follows) (takenOf h l .next ∷ queuedOf (filteredOf on view event .gives)) (queuedOf (filteredOf on view event .gives)))
-      (w .filters)
+      ap (λ (on : Bool). eventIf (takenOf h l .follows) (takenOf h l .next) ++ filteredOf on view event .gives .queued) (w .filters)
 
   -- the step before its state is written
   abbrev turned : Hub
@@ -139,10 +138,10 @@ module _ (h : Hub) (l : NextRecord) (w : Ready h) (d : Dispatched) (taken : take
   abbrev out : Dispatched → Event
   out t = outOf (viewOf seen (t .event)) (t .event)
 
-  pub pushes-of : pushesIn h l ≡ cond (d .follows) (d .next ∷ moreOf (viewOf seen (d .event)) (d .event)) (moreOf (viewOf seen (d .event)) (d .event))
+  pub pushes-of : pushesIn h l ≡ eventIf (d .follows) (d .next) ++ moreOf (viewOf seen (d .event)) (d .event)
   pushes-of =
       pushes-are h l w
-      ∙ ap (λ (t : Dispatched). cond (t .follows) (t .next ∷ moreOf (viewOf seen (t .event)) (t .event)) (moreOf (viewOf seen (t .event)) (t .event))) taken
+      ∙ ap (λ (t : Dispatched). eventIf (t .follows) (t .next) ++ moreOf (viewOf seen (t .event)) (t .event)) taken
 
   pub cell-of : (k : ℕ) → k < nowhere → cellAt (stepHub h l) k ≡ cond (hits (h .codes) k (out d)) (cellType (out d .event) (cellAt seen k)) (cellAt seen k)
   cell-of k inside =

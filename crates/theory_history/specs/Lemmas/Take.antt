@@ -1,7 +1,7 @@
 -- A step that takes a record, on an empty queue: what a place tells after it, from what the filters make of the event that the record gives.
 use Prim.Native.Nat.{ℕ, _<_}
 use mathlib.Core.Bool.{Bool, true, false, cond, _&&_, _||_}
-use mathlib.Core.List.{List, _∷_, _++_}
+use mathlib.Core.List.{List, _++_}
 use mathlib.Core.Path.{_≡_, refl, sym, _∙_, ap, subst}
 use lib.Dec.{eqb}
 use lib.Ieee.{Float, eq}
@@ -16,7 +16,7 @@ use Rattle.rules.specs.declared.View.{View}
 use Rattle.rules.specs.declared.Dispatched.{Dispatched}
 use Rattle.rules.specs.Names.{nowhere, noName, isHat, positiveName, negativeName, positiveCode, negativeCode}
 use Rattle.rules.specs.Places.{placeOf, presentNames}
-use Rattle.rules.specs.Events.{codeType, codeOf, queuedOf}
+use Rattle.rules.specs.Events.{codeType, codeOf, eventIf}
 use Rattle.rules.specs.State.{writesAxisType}
 use Rattle.rules.specs.Filters.{Direction, hatBy, hatGives}
 use Rattle.rules.specs.Dispatch.{Move, moveOf, dispatchBy, dispatchOf, single, double}
@@ -62,7 +62,7 @@ taken-as h r w none m e =
 
 -- what a step queues
 abbrev pub queueOf : Dispatched → View → List Event
-queueOf d v = cond (d .follows) (d .next ∷ moreOf v (d .event)) (moreOf v (d .event))
+queueOf d v = eventIf (d .follows) (d .next) ++ moreOf v (d .event)
 
 module _ (P : Float → Type 0) (alike : (a b : Float) → P a → P b → eq a b ≡ true → a ≡ b) where
   -- what the place holds and what waits for it after the step tell b and f
@@ -176,8 +176,8 @@ module _ (s : Sheet) (k : ℕ) (v : View) (bare : axialAt s k ≡ false) where
     value-minus : {y : Float} → Apart s k (ev pad time (Changed mn mc y))
     value-minus {y} = record { fit = change inside; apart = off (Changed mn mc y) ma }
 
-    hat-by : (o m l r : Bool) → outOf v e ≡ hatBy o m l r e plus minus .event → moreOf v e ≡ queuedOf (hatBy o m l r e plus minus) → Spares s k (single e) v
-    unfolding hatBy queuedOf
+    hat-by : (o m l r : Bool) → outOf v e ≡ hatBy o m l r e plus minus .event → moreOf v e ≡ hatBy o m l r e plus minus .queued → Spares s k (single e) v
+    unfolding hatBy
     hat-by true m l false out queue = events-spare e _ _ pad time out queue (passes refl (off (Pressed pn pc) pa)) (more value-plus empty)
     hat-by true m l true out queue =
         events-spare e _ _ pad time out queue (passes refl (off (Released mn mc) ma))

@@ -1,10 +1,9 @@
 -- What the filters make of one event, by its case: a press or a release passes; a button's value passes the deadzone; an axis event stays one, or is dropped,
 -- and may clear its partner; on a converting pad a hat's axis event becomes the events of its directions.
-use Prim.Native.Nat.{ℕ, _+_}
+use Prim.Native.Nat.{ℕ}
 use mathlib.Core.Bool.{Bool, true, false, cond, _&&_}
 use mathlib.Core.List.{List, [], _∷_}
 use mathlib.Core.Path.{_≡_, refl}
-use lib.ListN.{take, set}
 use lib.Ieee.{Float, eq}
 use Rattle.numbers.specs.Constants.{zero32, one32, minusOne32}
 use Rattle.numbers.specs.Deadzone.{deadzoneOf}
@@ -15,8 +14,7 @@ use Rattle.rules.specs.declared.EventType.the-variants.{Pressed, Released, Repe
 use Rattle.rules.specs.declared.View.{View}
 use Rattle.rules.specs.declared.Zoned.{Zoned}
 use Rattle.rules.specs.Names.{isHat, partnerOf, positiveName, negativeName, positiveCode, negativeCode}
-use Rattle.rules.specs.Places.{oneIf}
-use Rattle.rules.specs.Events.{dropped, queuedOf}
+use Rattle.rules.specs.Events.{eventIf, dropped}
 use Rattle.rules.specs.Filters.{Direction, hatBy, hatGives, dpadOf, jitteredOf, deadzonedOf, stickZoned, buttonZoned, shrunk, clearsPartner, unless, joined, filteredOf}
 use Rattle.theory_history.specs.Lemmas.Truth.{false-true}
 
@@ -29,8 +27,8 @@ unfolding filteredOf
 outOf v e = filteredOf true v e .gives .event
 
 unfoldable pub moreOf : View → Event → List Event
-unfolding filteredOf queuedOf
-moreOf v e = queuedOf (filteredOf true v e .gives)
+unfolding filteredOf
+moreOf v e = filteredOf true v e .gives .queued
 
 -- ---- what no filter looks at
 
@@ -56,7 +54,7 @@ plain-out v pad time Disconnected e = refl
 plain-out v pad time Dropped e = refl
 
 pub plain-more : (v : View) (pad time : ℕ) (t : EventType) → plainType t ≡ true → moreOf v (ev pad time t) ≡ []
-unfolding moreOf filteredOf joined dpadOf jitteredOf deadzonedOf queuedOf
+unfolding moreOf filteredOf joined dpadOf jitteredOf deadzonedOf
 plain-more v pad time (Pressed n c) e = refl
 plain-more v pad time (Released n c) e = refl
 plain-more v pad time (Repeated n c) e = refl
@@ -83,12 +81,12 @@ module _ (v : View) (pad time n c : ℕ) (x : Float) where
   unzoned-out dead = rw dead
 
   pub changed-more : moreOf v changed ≡ []
-  unfolding moreOf filteredOf joined dpadOf jitteredOf deadzonedOf queuedOf buttonZoned
-  changed-more = by (v .dead)
+  unfolding moreOf filteredOf joined dpadOf jitteredOf deadzonedOf buttonZoned
+  changed-more = by (v .dead) refl
     where
-      by : (dead : Bool) → take (0 + oneIf (cond dead (buttonZoned v changed n c (deadzoneOf x zero32 (v .threshold) .x)) (record { event = changed; clears = false; clearing = changed; flags = v .flags }) .clears)) (set (changed ∷ changed ∷ changed ∷ changed ∷ []) 0 (cond dead (buttonZoned v changed n c (deadzoneOf x zero32 (v .threshold) .x)) (record { event = changed; clears = false; clearing = changed; flags = v .flags }) .clearing)) ≡ []
-      by true = refl
-      by false = refl
+      by : (dead : Bool) → v .dead ≡ dead → moreOf v changed ≡ []
+      by true dead = rw dead
+      by false dead = rw dead
 
 -- ---- an axis event that no conversion takes
 
@@ -129,18 +127,18 @@ module _ (v : View) (pad time n c : ℕ) (x : Float) where
   stands false b e = e
 
   clears-by : (clears : Bool) → clearsPartner v (shrunk v x) ≡ clears
-      → Clears v pad time n (take (0 + oneIf clears) (set (hasaxis ∷ hasaxis ∷ hasaxis ∷ hasaxis ∷ []) 0 (ev pad time (Axis (partnerOf n) (v .partner .code) zero32))))
+      → Clears v pad time n (eventIf clears (ev pad time (Axis (partnerOf n) (v .partner .code) zero32)))
   unfolding clearsPartner
   clears-by true e = one (stands (v .partner .stands) _ e)
   clears-by false e = none
 
-  zone-clears : (dead : Bool) → Clears v pad time n (take (0 + oneIf (zone dead .clears)) (set (hasaxis ∷ hasaxis ∷ hasaxis ∷ hasaxis ∷ []) 0 (zone dead .clearing)))
+  zone-clears : (dead : Bool) → Clears v pad time n (eventIf (zone dead .clears) (zone dead .clearing))
   unfolding stickZoned
   zone-clears true = clears-by (clearsPartner v (shrunk v x)) refl
   zone-clears false = none
 
   jitter-clears : (jitters : Bool)
-      → Clears v pad time n (take (0 + oneIf (deadzonedOf v (cond jitters (dropped hasaxis) hasaxis) .clears)) (set (hasaxis ∷ hasaxis ∷ hasaxis ∷ hasaxis ∷ []) 0 (deadzonedOf v (cond jitters (dropped hasaxis) hasaxis) .clearing)))
+      → Clears v pad time n (eventIf (deadzonedOf v (cond jitters (dropped hasaxis) hasaxis) .clears) (deadzonedOf v (cond jitters (dropped hasaxis) hasaxis) .clearing))
   unfolding deadzonedOf
   jitter-clears true = none
   jitter-clears false = zone-clears (v .dead)
@@ -150,7 +148,7 @@ module _ (v : View) (pad time n c : ℕ) (x : Float) where
   stick-out free = rw (outOf, free) (jitter-moves (v .stored && jitterOf x (v .stick)))
 
   pub stick-more : (v .converts && isHat n) ≡ false → Clears v pad time n (moreOf v hasaxis)
-  unfolding moreOf filteredOf joined dpadOf jitteredOf queuedOf
+  unfolding moreOf filteredOf joined dpadOf jitteredOf
   stick-more free = rw free (jitter-clears (v .stored && jitterOf x (v .stick)))
 
   -- ---- a hat's axis event on a converting pad
@@ -169,9 +167,9 @@ module _ (v : View) (pad time n c : ℕ) (x : Float) where
   hat-passes false false true true plus minus = refl
 
   hat-queues : (o m p q : Bool) (plus minus : Direction)
-      → queuedOf (joined (hatBy o m p q hasaxis plus minus) (deadzonedOf v (jitteredOf v (hatBy o m p q hasaxis plus minus .event))) .gives)
-      ≡ queuedOf (hatBy o m p q hasaxis plus minus)
-  unfolding joined hatBy deadzonedOf jitteredOf queuedOf
+      → joined (hatBy o m p q hasaxis plus minus) (deadzonedOf v (jitteredOf v (hatBy o m p q hasaxis plus minus .event))) .gives .queued
+      ≡ hatBy o m p q hasaxis plus minus .queued
+  unfolding joined hatBy deadzonedOf jitteredOf
   hat-queues true m p false plus minus = refl
   hat-queues true m p true plus minus = refl
   hat-queues false true false q plus minus = refl
@@ -188,7 +186,7 @@ module _ (v : View) (pad time n c : ℕ) (x : Float) where
       (hat-passes (eq x one32) (eq x minusOne32) (v .positive) (v .negative) (record { name = positiveName n; code = positiveCode n })
       (record { name = negativeName n; code = negativeCode n }))
 
-  pub hat-more : (v .converts && isHat n) ≡ true → moreOf v hasaxis ≡ queuedOf (hatGives v hasaxis n x)
+  pub hat-more : (v .converts && isHat n) ≡ true → moreOf v hasaxis ≡ hatGives v hasaxis n x .queued
   unfolding moreOf filteredOf dpadOf hatGives
   hat-more taken =
       rw taken

@@ -7,35 +7,20 @@ use Rattle.filters.proofs.dpad.centred.Tie as tie
 with-requires : tie.Need-with-requires
 with-requires c κs = search needs
 
-with-requires-2 : tie.Need-with-requires-2
-with-requires-2 c κs = search needs
-
-with-requires-3 : tie.Need-with-requires-3
-with-requires-3 c κs = search needs
-
-with-requires-4 : tie.Need-with-requires-4
-with-requires-4 c κs = search needs
-
-followed-by-three-requires : tie.Need-followed-by-three-requires
-followed-by-three-requires c κs = search needs
-
 returns : tie.Need-returns
 unfolding hatBy
-returns c = rw (c .followed-by-three .ensures, c .before .if2 .taken, c .before .before .if1 .taken, c .before .before .before .with4 .ensures, c .before .before .before .before .with3 .ensures, c .before .before .before .before .before .with2 .ensures, c .before .before .before .before .before .before .with .ensures)
-
-followed-requires : tie.Need-followed-requires
-followed-requires c κs = search needs
+returns c = rw (c .if2 .taken, c .before .with .ensures, c .before .before .if1 .taken)
 
 returns-2 : tie.Need-returns-2
 unfolding hatBy
-returns-2 c = rw (c .followed .ensures, c .before .if2 .left, c .before .before .if1 .taken, c .before .before .before .before .before .with2 .ensures, c .before .before .before .before .before .before .with .ensures)
+returns-2 c = rw (c .if2 .left, c .before .with .ensures, c .before .before .if1 .taken)
 
-followed-requires-2 : tie.Need-followed-requires-2
-followed-requires-2 c κs = search needs
+with-requires-2 : tie.Need-with-requires-2
+with-requires-2 c κs = search needs
 
 returns-3 : tie.Need-returns-3
 unfolding hatBy
-returns-3 c = rw (c .followed2 .ensures, c .before .if3 .taken, c .before .before .if1 .left, c .before .before .before .with4 .ensures, c .before .before .before .before .with3 .ensures)
+returns-3 c = rw (c .with2 .ensures, c .before .if3 .taken, c .before .before .if1 .left)
 
 dropped-requires : tie.Need-dropped-requires
 dropped-requires c κs = search needs
@@ -52,14 +37,9 @@ centred-spec =
     tie.close
     (tie.spec
     with-requires
-    with-requires-2
-    with-requires-3
-    with-requires-4
-    followed-by-three-requires
     returns
-    followed-requires
     returns-2
-    followed-requires-2
+    with-requires-2
     returns-3
     dropped-requires
     alone-requires
