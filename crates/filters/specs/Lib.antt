@@ -3,3 +3,4 @@ pub mod Counts
 pub mod Queued
 pub mod Post
 pub mod FilteredEvent
+pub mod Lanes

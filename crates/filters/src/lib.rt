@@ -8,6 +8,7 @@ ghost use Rattle.numbers.specs.Constants.{zero32};
 ghost use Rattle.rules.specs.Filters as law;
 ghost use Rattle.filters.specs.Post.{Counted};
 ghost use Rattle.filters.specs.FilteredEvent.{FilteredEventIs, queuedBehindOf};
+ghost use Rattle.filters.specs.Lanes.{zonedValue};
 use numbers::Pair;
 use rules::Event;
 use rules::EventType;
@@ -147,6 +148,34 @@ pub fn deadzoned(v: View, e: Event) -> Zoned
     }
 }
 
+// A button's value after the deadzone, where its own value and its element's threshold are given; any other event as it is.
+pub fn zoned_value(own: f32, threshold: f32, e: Event) -> Event
+    ensures { λ r. ⌜ r ≡ zonedValue own threshold e ⌝ }
+{
+    let t = e.event;
+    match t {
+        EventType::Changed(n, c, x) => {
+            let pair = scale::apply_deadzone(x, 0.0, threshold);
+            let y = pair.x;
+            unless(own == y, e, EventType::Changed(n, c, y))
+        }
+        EventType::Axis(_, _, _) => e,
+        EventType::Pressed(_, _) => e,
+        EventType::Released(_, _) => e,
+        EventType::Repeated(_, _) => e,
+        EventType::Connected => e,
+        EventType::Disconnected => e,
+        EventType::Dropped => e,
+    }
+}
+
+// An event that no hat turns, through jitter and deadzone.
+pub fn unturned(v: View, e: Event) -> Zoned
+    ensures { λ r. ⌜ r ≡ law.deadzonedOf v (law.jitteredOf v e) ⌝ }
+{
+    deadzoned(v, jittered(v, e))
+}
+
 // ---- the three in order
 
 fn one_if(b: bool) -> u8
@@ -172,7 +201,7 @@ pub fn filter(on: bool, v: View, e: Event) -> FilteredEvent
     if on {
         let g = dpad::dpad(v, e);
         let turned = g.event;
-        let z = deadzoned(v, jittered(v, turned));
+        let z = unturned(v, turned);
         let zoned = z.event;
         let clearing = z.clearing;
         let flags = z.flags;

@@ -57,9 +57,9 @@ unique-present-place names renames renamed p name = unique-place _
 pub unique-partner-place : (names renames : List ℕ) (renamed : List Bool) (p name : ℕ) → One (PlaceIs (partnerPlaceOf names renames renamed p name))
 unique-partner-place names renames renamed p name = unique-place _
 
-pub unique-event-places : (codes kinds names renames : List ℕ) (renamed converts newconverts hasbutton hasaxis flags : List Bool) (p name code : ℕ)
-    → One (EventPlacesAre codes kinds names renames renamed converts newconverts hasbutton hasaxis flags p name code)
-unique-event-places codes kinds names renames renamed converts newconverts hasbutton hasaxis flags p name code = one-owed _ (λ r w. w .is)
+pub unique-event-places : (codes kinds names renames : List ℕ) (renamed hasbutton hasaxis flags : List Bool) (p name own : ℕ)
+    → One (EventPlacesAre codes kinds names renames renamed hasbutton hasaxis flags p name own)
+unique-event-places codes kinds names renames renamed hasbutton hasaxis flags p name own = one-owed _ (λ r w. w .is)
 
 -- ---- hats, filters: what they give, and how many events they queue at most
 

@@ -7,21 +7,18 @@ use Rattle.filters.proofs.filter.Tie as tie
 dpad-requires : tie.Need-dpad-requires
 dpad-requires c κs = search needs
 
-jittered-requires : tie.Need-jittered-requires
-jittered-requires c κs = search needs
-
-deadzoned-requires : tie.Need-deadzoned-requires
-deadzoned-requires c κs = search needs
+unturned-requires : tie.Need-unturned-requires
+unturned-requires c κs = search needs
 
 one-if-requires : tie.Need-one-if-requires
 one-if-requires c κs = search needs
 
-add-t14 : tie.Need-add-t14
-add-t14 c = search needs
+add-t13 : tie.Need-add-t13
+add-t13 c = search needs
 
 returns : tie.Need-returns
 unfolding filteredEventOf
-returns c = sent (rw (c .before .one-if .ensures .is, c .before .before .before .before .before .deadzoned .ensures, c .before .before .before .before .before .before .jittered .ensures, c .before .before .before .before .before .before .before .before .dpad .ensures .is, c .before .before .before .before .before .before .before .before .before .if1 .taken))
+returns c = sent (rw (c .before .one-if .ensures .is, c .before .before .before .before .before .unturned .ensures, c .before .before .before .before .before .before .before .dpad .ensures .is, c .before .before .before .before .before .before .before .before .if1 .taken))
 
 returns-2 : tie.Need-returns-2
 unfolding filteredEventOf
@@ -32,9 +29,8 @@ filter-spec =
     tie.close
     (tie.spec
     dpad-requires
-    jittered-requires
-    deadzoned-requires
+    unturned-requires
     one-if-requires
-    add-t14
+    add-t13
     returns
     returns-2)
