@@ -10,6 +10,7 @@ ghost use Rattle.rules.specs.Hub.{pastElement, pastButton, pastAxis};
 ghost use Rattle.pad.specs.Found.{Placed};
 ghost use Rattle.gather.specs.EventPlaces.{viewBy};
 ghost use Rattle.columns.specs.Columns.{elementsOf, buttonsOf, axesOf};
+ghost use Rattle.cells.specs.Seen.{storedAt, heldAt};
 ghost use Rattle.cells.specs.Settled.{Settled};
 use columns::Marks;
 use columns::Times;
@@ -18,34 +19,68 @@ use gather::EventPlaces;
 use rules::Event;
 use rules::View;
 
-// The view, with what stands at the places: the own element and records, the two directions' button records, the partner's records.
+// What a stick sees, with what stands at the places: the own element and records, the partner's records.
 pub fn view_in(values: &Values, times: &Times, marks: &Marks, s: EventPlaces) -> View
-    requires { ⌜ (s .own .place ≤ nowhere) × (s .positive .place ≤ nowhere) × (s .negative .place ≤ nowhere) × (s .partner .place ≤ nowhere) ⌝ }
+    requires { ⌜ (s .own .place ≤ nowhere) × (s .partner .place ≤ nowhere) ⌝ }
     ensures { λ r. ⌜ r ≡ viewBy s (getD (elementsOf (now (values .entry)) (now (marks .entry))) (s .own .place) pastElement)
         (getD (buttonsOf (now (values .entry)) (now (times .entry)) (now (marks .entry))) (s .own .place) pastButton)
         (getD (axesOf (now (values .entry)) (now (times .entry))) (s .own .place) pastAxis)
-        (getD (buttonsOf (now (values .entry)) (now (times .entry)) (now (marks .entry))) (s .positive .place) pastButton)
-        (getD (buttonsOf (now (values .entry)) (now (times .entry)) (now (marks .entry))) (s .negative .place) pastButton)
         (getD (buttonsOf (now (values .entry)) (now (times .entry)) (now (marks .entry))) (s .partner .place) pastButton)
         (getD (axesOf (now (values .entry)) (now (times .entry))) (s .partner .place) pastAxis) ⌝ }
 {
     let own = s.own;
-    let plus = s.positive;
-    let minus = s.negative;
     let other = s.partner;
     let o = own.place;
-    let i = plus.place;
-    let j = minus.place;
     let q = other.place;
     gather::view_of(
         s,
         columns::element_at(values, marks, o),
         columns::button_at(values, times, marks, o),
         columns::axis_at(values, times, o),
-        columns::button_at(values, times, marks, i),
-        columns::button_at(values, times, marks, j),
         columns::button_at(values, times, marks, q),
         columns::axis_at(values, times, q),
+    )
+}
+
+// The value of a place: its axis record's, else its button record's.
+pub fn value_in<'a>(
+    hasbutton: &'a [bool; 208],
+    hasaxis: &'a [bool; 208],
+    values: &'a Values,
+    times: &'a Times,
+    marks: &'a Marks,
+    k: usize,
+) -> f32
+    requires { ⌜ k ≤ nowhere ⌝ }
+    ensures { λ r. ⌜ r ≡ storedAt (now (hasbutton .entry)) (now (hasaxis .entry)) (buttonsOf (now (values .entry)) (now (times .entry)) (now (marks .entry)))
+        (axesOf (now (values .entry)) (now (times .entry))) k ⌝ }
+{
+    let m = gather::place_marks(hasbutton, hasaxis, k);
+    state::read_value(
+        m.hasaxis,
+        columns::axis_at(values, times, k),
+        m.hasbutton,
+        columns::button_at(values, times, marks, k),
+    )
+}
+
+// Whether the button record of a hat's direction is pressed; not where the name is no hat's or the code has no place.
+pub fn held_in<'a>(
+    codes: &'a [u32; 208],
+    hasbutton: &'a [bool; 208],
+    values: &'a Values,
+    times: &'a Times,
+    marks: &'a Marks,
+    p: u8,
+    name: u8,
+    code: u32,
+) -> bool
+    ensures { λ r. ⌜ r ≡ heldAt (now (codes .entry)) (now (hasbutton .entry)) (buttonsOf (now (values .entry)) (now (times .entry)) (now (marks .entry))) p name code ⌝ }
+{
+    let k = gather::hat_place(codes, p, name, code);
+    state::read_pressed(
+        pad::bool_at(hasbutton, k),
+        columns::button_at(values, times, marks, k),
     )
 }
 

@@ -8,6 +8,7 @@ use rules::AxisData;
 use rules::ButtonData;
 use rules::Element;
 use rules::Event;
+use rules::EventType;
 use rules::Flags;
 use rules::Partner;
 use rules::RawRecord;
@@ -81,23 +82,58 @@ fn queues(count: u8, first: Event, second: Event, third: Event, case: &[u8; 104]
     compare_cases::waits(2 < count, third, case, compare_cases::QUEUED + 8)
 }
 
-// Whether the three filters, on or off, make of the case's event what the case says: as the pump has it, what passes and then the events behind it one by one.
+// What waits at a place behind an event: the hat's events, then the one that clears the partner.
+fn behind(v: View, e: Event, hats: u8, clearing: Event, at: u8) -> Event {
+    if at < hats {
+        return dpad::queued(v, e, choices::wide(at));
+    }
+    clearing
+}
+
+// Whether a button's value comes out so, which the pump sends to the deadzone with its own value and threshold alone.
+fn valued(v: View, e: Event, case: &[u8; 104]) -> bool {
+    if !v.dead {
+        return true;
+    }
+    let t = e.event;
+    match t {
+        EventType::Changed(_, _, _) => {
+            let sent = filters::zoned_value(v.own, v.threshold, e);
+            compare_cases::same(sent, case, compare_cases::OUT)
+        }
+        _ => true,
+    }
+}
+
+// Whether the three filters make of the case's event what the case says, by the functions that the pump calls: what passes, and then the events behind it one
+// by one.
 fn filtered(on: bool, case: &[u8; 104]) -> bool {
     let v = view(case);
     let e = compare_cases::event(case, compare_cases::GIVEN);
-    let f = filters::filter(on, v, e);
-    let sent = f.event;
-    let flags = f.flags;
-    if !sends(sent, f.count, case) {
+    if !on {
+        return sends(e, 0, case) && flagged(v.flags, case);
+    }
+    let g = dpad::dpad(v, e);
+    let hats = g.count;
+    let turned = g.event;
+    let z = filters::unturned(v, turned);
+    let sent = z.event;
+    let clearing = z.clearing;
+    let flags = z.flags;
+    let mut count = hats;
+    if z.clears {
+        count = hats + 1;
+    }
+    if !sends(sent, count, case) {
         return false;
     }
-    let first = filters::queued_behind(e, v, e, f, 1);
-    let second = filters::queued_behind(e, v, e, f, 2);
-    let third = filters::queued_behind(e, v, e, f, 3);
-    if !queues(f.count, first, second, third, case) {
+    let first = behind(v, e, hats, clearing, 0);
+    let second = behind(v, e, hats, clearing, 1);
+    let third = behind(v, e, hats, clearing, 2);
+    if !queues(count, first, second, third, case) {
         return false;
     }
-    flagged(flags, case)
+    flagged(flags, case) && valued(v, e, case)
 }
 
 // Whether the dpad filter alone does.

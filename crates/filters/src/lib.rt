@@ -6,8 +6,7 @@ ghost use mathlib.Core.Path.{_≡_};
 ghost use mathlib.Core.Bool.{cond};
 ghost use Rattle.numbers.specs.Constants.{zero32};
 ghost use Rattle.rules.specs.Filters as law;
-ghost use Rattle.filters.specs.Post.{Counted};
-ghost use Rattle.filters.specs.FilteredEvent.{FilteredEventIs, queuedBehindOf};
+ghost use Rattle.filters.specs.Lanes.{zonedValue};
 use numbers::Pair;
 use rules::Event;
 use rules::EventType;
@@ -147,62 +146,30 @@ pub fn deadzoned(v: View, e: Event) -> Zoned
     }
 }
 
-// ---- the three in order
-
-fn one_if(b: bool) -> u8
-    ensures { λ r. ⌜ Counted b r ⌝ }
+// A button's value after the deadzone, where its own value and its element's threshold are given; any other event as it is.
+pub fn zoned_value(own: f32, threshold: f32, e: Event) -> Event
+    ensures { λ r. ⌜ r ≡ zonedValue own threshold e ⌝ }
 {
-    if b { 1 } else { 0 }
-}
-
-// What passes, how many events wait behind it, how many of them are a hat's, and the event that clears the partner. The events that wait are told one by
-// one (`queued_behind`), so that none is made before it is pushed.
-pub struct FilteredEvent {
-    pub event: Event,
-    pub count: u8,
-    pub hats: u8,
-    pub clearing: Event,
-    pub flags: Flags,
-}
-
-// The event through the filters in their order, if they are on: what passes, and how many events wait behind it.
-pub fn filter(on: bool, v: View, e: Event) -> FilteredEvent
-    ensures { λ r. ⌜ FilteredEventIs on v e r ⌝ }
-{
-    if on {
-        let g = dpad::dpad(v, e);
-        let turned = g.event;
-        let z = deadzoned(v, jittered(v, turned));
-        let zoned = z.event;
-        let clearing = z.clearing;
-        let flags = z.flags;
-        return FilteredEvent {
-            event: zoned,
-            count: g.count + one_if(z.clears),
-            hats: g.count,
-            clearing: clearing,
-            flags: flags,
-        };
-    }
-    let flags = v.flags;
-    FilteredEvent {
-        event: e,
-        count: 0,
-        hats: 0,
-        clearing: e,
-        flags: flags,
+    let t = e.event;
+    match t {
+        EventType::Changed(n, c, x) => {
+            let pair = scale::apply_deadzone(x, 0.0, threshold);
+            let y = pair.x;
+            unless(own == y, e, EventType::Changed(n, c, y))
+        }
+        EventType::Axis(_, _, _) => e,
+        EventType::Pressed(_, _) => e,
+        EventType::Released(_, _) => e,
+        EventType::Repeated(_, _) => e,
+        EventType::Connected => e,
+        EventType::Disconnected => e,
+        EventType::Dropped => e,
     }
 }
 
-// What waits at a place behind an event: the record's own next one, the hat's, the clearing one.
-pub fn queued_behind(next: Event, v: View, e: Event, s: FilteredEvent, at: usize) -> Event
-    ensures { λ r. ⌜ r ≡ queuedBehindOf next v e s at ⌝ }
+// An event that no hat turns, through jitter and deadzone.
+pub fn unturned(v: View, e: Event) -> Zoned
+    ensures { λ r. ⌜ r ≡ law.deadzonedOf v (law.jitteredOf v e) ⌝ }
 {
-    if at == 0 {
-        return next;
-    }
-    if at <= choices::wide(s.hats) {
-        return dpad::queued(v, e, at - 1);
-    }
-    s.clearing
+    deadzoned(v, jittered(v, e))
 }

@@ -195,55 +195,41 @@ pub fn place_again(
 
 // ---- what the filters see
 
-// The places that the filters look at for an event: its own, the two directions of a hat's axis, the partner; and where the two flags stand.
+// The places that the filters look at for a stick's event: its own and the partner's; and where the two flags stand.
 pub struct EventPlaces {
     pub own: PlaceMarks,
-    pub positive: PlaceMarks,
-    pub negative: PlaceMarks,
     pub partner: PlaceMarks,
     pub code: u32,
-    pub converts: bool,
     pub dead: bool,
     pub flag: usize,
     pub other: usize,
     pub flags: Flags,
 }
 
-// What a step sees for an event, where a place was looked up before, for the event's code or another.
-pub fn event_places<'a>(
+// What a step looks at for a stick's event, whose own place is known. No direction is asked for.
+pub fn stick_places<'a>(
     codes: &'a [u32; 208],
     kinds: &'a [u8; 208],
     names: &'a [u8; 208],
     renames: &'a [u8; 208],
     renamed: &'a [bool; 4],
-    converts: &'a [bool; 4],
-    newconverts: &'a [bool; 4],
     hasbutton: &'a [bool; 208],
     hasaxis: &'a [bool; 208],
     flags: &'a [bool; 24],
     p: u8,
     name: u8,
-    code: u32,
-    lastpad: u8,
-    lastcode: u32,
-    last: usize,
+    own: usize,
 ) -> EventPlaces
-    requires { ⌜ Placed (now codes) lastpad lastcode last ⌝ }
-    ensures { λ r. ⌜ EventPlacesAre (now (codes .entry)) (now (kinds .entry)) (now (names .entry)) (now (renames .entry)) (now (renamed .entry)) (now (converts .entry)) (now (newconverts .entry)) (now (hasbutton .entry)) (now (hasaxis .entry)) (now (flags .entry)) p name code r ⌝ }
+    ensures { λ r. ⌜ EventPlacesAre (now (codes .entry)) (now (kinds .entry)) (now (names .entry)) (now (renames .entry)) (now (renamed .entry))
+        (now (hasbutton .entry)) (now (hasaxis .entry)) (now (flags .entry)) p name own r ⌝ }
 {
-    let own = place_again(codes, p, code, lastpad, lastcode, last);
-    let positive = hat_place(codes, p, name, names::positive_code(name));
-    let negative = hat_place(codes, p, name, names::negative_code(name));
     let partner = partner_place(names, renames, renamed, p, name);
     let flag = flag_place(p, name);
     let other = flag_place(p, names::partner_of(name));
     EventPlaces {
         own: place_marks(hasbutton, hasaxis, own),
-        positive: place_marks(hasbutton, hasaxis, positive),
-        negative: place_marks(hasbutton, hasaxis, negative),
         partner: place_marks(hasbutton, hasaxis, partner),
         code: pad::code_at(codes, partner),
-        converts: converts_now(renamed, converts, newconverts, p),
         dead: pad::kind_at(kinds, own) == ELEMENT_AXIS,
         flag: flag,
         other: other,
@@ -254,28 +240,24 @@ pub fn event_places<'a>(
     }
 }
 
-// The view, with what stands at the places: the own element and records, the two directions' button records, the partner's records.
+// The view, with what stands at the places: the own element and records, the partner's records.
 pub fn view_of(
     s: EventPlaces,
     element: Element,
     b: ButtonData,
     a: AxisData,
-    plus: ButtonData,
-    minus: ButtonData,
     partnerbutton: ButtonData,
     partneraxis: AxisData,
 ) -> View
-    ensures { λ r. ⌜ r ≡ viewBy s element b a plus minus partnerbutton partneraxis ⌝ }
+    ensures { λ r. ⌜ r ≡ viewBy s element b a partnerbutton partneraxis ⌝ }
 {
     let own = s.own;
-    let positive = s.positive;
-    let negative = s.negative;
     let partner = s.partner;
     let flags = s.flags;
     View {
-        converts: s.converts,
-        positive: state::read_pressed(positive.hasbutton, plus),
-        negative: state::read_pressed(negative.hasbutton, minus),
+        converts: false,
+        positive: false,
+        negative: false,
         stored: own.hasaxis,
         stick: a.value,
         dead: s.dead,

@@ -2,6 +2,7 @@
 use Prim.Native.Nat.{ℕ, _+_, _≤_}
 use mathlib.Core.List.{List}
 use mathlib.Core.Path.{_≡_}
+use mathlib.Core.Bool.{Bool, false}
 use Rattle.rules.specs.Names.{placesPerPad, nowhere}
 use Rattle.rules.specs.Places.{halvings, seekOf, scanOf, placeOf, namedOf}
 
@@ -27,7 +28,11 @@ pub record Halved (codes : List ℕ) (start half code r : ℕ) : Type 0 where
   pub from : start ≤ r
   pub to : r ≤ start + half + 1
 
--- what the scan finds among the 52 places from start on
-pub record Scanned (names : List ℕ) (start name r : ℕ) : Type 0 where
-  pub is : r ≡ scanOf names placesPerPad start name
+-- what the scan finds among the n places from start on
+pub record Scanned (names : List ℕ) (start n name r : ℕ) : Type 0 where
+  pub is : r ≡ scanOf names n start name
   pub small : r ≤ nowhere
+
+-- where none of the first sixteen places has the name, the scan may start behind them
+pub record Early (names : List ℕ) (start name : ℕ) (r : Bool) : Type 0 where
+  pub passed : r ≡ false → scanOf names 36 (start + 16) name ≡ scanOf names placesPerPad start name

@@ -2,12 +2,14 @@
 -- what the check behind the halving search answers. By the tests that the definitions make.
 use Prim.Native.Nat.{ℕ, zero, suc, _+_, _-_, _*_, _/_, _^_, _<_, _≤_}
 use mathlib.Core.List.{List}
-use mathlib.Core.Path.{_≡_, refl, _∙_, ap}
+use mathlib.Core.Path.{_≡_, refl, sym, _∙_, ap}
+use mathlib.Core.Bool.{Bool, true, false, false≢true, _||_}
 use native.Mathlib.Nat.{pow-suc}
 use native.Mathlib.Numerals.{sub-one}
 use native.Mathlib.Omega.{arith}
 use lib.ListN.{getD}
-use borrow.Author.Tests.{lt-ltb, le-ltb, eq-eqb, ne-eqb}
+use lib.Dec.{eqb}
+use borrow.Author.Tests.{lt-ltb, le-ltb, eq-eqb, ne-eqb, eqb-false}
 use Rattle.rules.specs.Names.{padLimit, placesPerPad, nowhere}
 use Rattle.rules.specs.Places.{halvings, seekOf, checkedOf, placeOf, scanOf}
 use Rattle.pad.specs.Found.{Sought, Halved}
@@ -132,3 +134,17 @@ pub scan-none : (names : List ℕ) (k n name : ℕ) → n ≤ 0 → nowhere ≡ 
 unfolding scanOf
 scan-none names k zero name none = refl
 scan-none names k (suc n) name none = absurd (omega arith)
+
+-- as long as the name was not found among the first places, the scan goes on behind them
+pub early-next :
+    (names : List ℕ) (start i name whole : ℕ) (found : Bool) →
+    i < placesPerPad →
+    (found ≡ false → scanOf names (placesPerPad - i) (start + i) name ≡ whole) →
+    found || eqb (getD names (start + i) 0) name ≡ false →
+    scanOf names (placesPerPad - (i + 1)) (start + (i + 1)) name ≡ whole
+early-next names start i name whole true low done none = absurd (false≢true (sym none))
+early-next names start i name whole false low done none =
+    let other = eqb-false (getD names (start + i) 0) name none in
+    let fewer : placesPerPad - (i + 1) ≡ placesPerPad - i - 1 = omega arith in
+    let next : start + (i + 1) ≡ start + i + 1 = omega arith in
+    rw (fewer, next) (sym (scan-next names (start + i) (placesPerPad - i) name (omega arith) other) ∙ done refl)

@@ -6,14 +6,16 @@ ghost use Prim.Native.Nat.{_+_, _/_, _≤_, _<_};
 ghost use lib.ListN.{getD, set};
 ghost use Rattle.rules.specs.Names.{noName, placesPerPad, nowhere};
 ghost use Rattle.rules.specs.Places.{codeNamed, directionNamed, convertsOf, clearedOf};
-ghost use Rattle.pad.specs.Found.{Placed, Named, Halved, Sought, Scanned};
+ghost use Rattle.pad.specs.Found.{Placed, Named, Halved, Sought, Scanned, Early};
 use rules::NO_NAME;
 use rules::NOWHERE;
 use rules::PADS;
 use rules::PLACES_PER_PAD;
 
-// The place of a code or a name that is not there: one past the last pad's places.
 const ALL_HATS: u8 = 15;
+
+// How many places of a pad are looked at together for a name.
+const EARLY: usize = 16;
 
 // ---- the place of a code
 
@@ -98,13 +100,13 @@ pub fn place_of(codes: &[u32; 208], pad: u8, code: u32) -> usize
 
 // ---- the place of a name
 
-// The first of the 52 places that has the name, or `NOWHERE`.
-fn scan(names: &[u8; 208], start: usize, name: u8) -> usize
-    requires { ⌜ start + placesPerPad ≤ nowhere ⌝ }
-    ensures { λ r. ⌜ Scanned (now (names .entry)) start name r ⌝ }
+// The first of the places from a start on that has the name, or `NOWHERE`.
+fn scan(names: &[u8; 208], start: usize, n: usize, name: u8) -> usize
+    requires { ⌜ start + n ≤ nowhere ⌝ }
+    ensures { λ r. ⌜ Scanned (now (names .entry)) start n name r ⌝ }
 {
     let mut place = start;
-    let mut left = PLACES_PER_PAD;
+    let mut left = n;
     while 0 < left {
         if names[place] == name {
             return place;
@@ -115,14 +117,32 @@ fn scan(names: &[u8; 208], start: usize, name: u8) -> usize
     NOWHERE
 }
 
-// The place of a name: the first of the pad's that has it, or `NOWHERE`.
+// Whether one of the sixteen places from a start on has the name. None is passed over, so that the machine compares all sixteen at once.
+fn stands_early(names: &[u8; 208], start: usize, name: u8) -> bool
+    requires { ⌜ start + placesPerPad ≤ nowhere ⌝ }
+    ensures { λ r. ⌜ Early (now (names .entry)) start name r ⌝ }
+{
+    let mut found = false;
+    let mut i: usize = 0;
+    while i < EARLY {
+        found = found | (names[start + i] == name);
+        i = i + 1;
+    }
+    found
+}
+
+// The place of a name: the first of the pad's that has it, or `NOWHERE`. An axis most often stands behind sixteen others.
 pub fn named(names: &[u8; 208], pad: u8, name: u8) -> usize
     ensures { λ r. ⌜ Named (now (names .entry)) pad name r ⌝ }
 {
     if PADS <= pad {
         return NOWHERE;
     }
-    scan(names, PLACES_PER_PAD * pad as usize, name)
+    let start = PLACES_PER_PAD * pad as usize;
+    if stands_early(names, start, name) {
+        return scan(names, start, PLACES_PER_PAD, name);
+    }
+    scan(names, start + EARLY, PLACES_PER_PAD - EARLY, name)
 }
 
 // ---- columns read at any index

@@ -1,36 +1,36 @@
--- What a turn's gates go by: the marks of a record are the same where it neither joins nor leaves, and an event at which no filter looks passes as it is and
--- leaves the flags as they were; what the filters see is the hub's own view.
+-- What a turn's gates go by: the marks of a record are the same where it neither joins nor leaves; which filters look at an event goes by the hub's own view,
+-- and what each of them sees is that view, as far as it asks.
 use Prim.Native.Nat.{ℕ, _*_, _<_}
 use mathlib.Core.Path.{_≡_, refl, sym, _∙_, ap}
-use mathlib.Core.Bool.{Bool, true, false, false≢true}
+use mathlib.Core.Bool.{Bool, false}
 use mathlib.Core.List.{List, []}
 use lib.ListN.{getD, set}
 use lib.Seq.{set-getD}
 use lib.Dec.{eqb}
 use native.Mathlib.Omega.{arith}
 use borrow.Author.Tests.{ne-eqb}
-use Rattle.numbers.specs.Constants.{zero32}
 use Rattle.rules.specs.declared.Hub.{Hub}
 use Rattle.rules.specs.declared.Element.{Element}
 use Rattle.rules.specs.declared.ButtonData.{ButtonData}
 use Rattle.rules.specs.declared.AxisData.{AxisData}
 use Rattle.rules.specs.declared.Event.{Event}
-use Rattle.rules.specs.declared.EventType.{EventType}
-use Rattle.rules.specs.declared.EventType.the-variants.{Pressed, Released, Repeated, Changed, Axis, Connected, Disconnected, Dropped}
 use Rattle.rules.specs.declared.Flags.{Flags}
+use Rattle.rules.specs.declared.Zoned.{Zoned}
 use Rattle.rules.specs.declared.View.{View}
-use Rattle.rules.specs.Names.{placesPerPad, flagsPerPad, partnerOf}
+use Rattle.rules.specs.Names.{placesPerPad, flagsPerPad, partnerOf, positiveCode, negativeCode}
 use Rattle.rules.specs.Places.{placeOf, clearedOf}
 use Rattle.rules.specs.Sheets.{elementAxis}
 use Rattle.rules.specs.Forms.{kindConnected, kindDisconnected}
 use Rattle.rules.specs.Events.{nameOf, codeOf}
-use Rattle.rules.specs.Filters.{filteredOf, unfiltered, dpadOf, jitteredOf, deadzonedOf, joined, dpadType, jitterType, deadzoneType}
-use Rattle.rules.specs.Hub.{viewAt, viewOf, hatPlaceOf, partnerPlaceOf, convertsIn, pressedAt, valueAt, flagPlace}
+use Rattle.rules.specs.Filters.{filteredOf}
+use Rattle.rules.specs.Hub.{viewAt, viewOf, hatPlaceOf, partnerPlaceOf, convertsIn, pressedAt, valueAt, flagPlace, elementAt, buttonAt, axisAt, pastElement}
 use Rattle.rules.specs.Setters.{withSheet, withRows, withNames, withMarks, withState, withFlags}
 use Rattle.rules.specs.Calls.{idleHub}
 use Rattle.rules.specs.Step.{connectedAfter, renamedAfter, marksCleared, flagsSet, filteredIn}
 use Rattle.gather.specs.declared.EventPlaces.{EventPlaces}
-use Rattle.gather.specs.EventPlaces.{EventPlacesAre, eventPlacesAt}
+use Rattle.gather.specs.EventPlaces.{EventPlacesAre, eventPlacesAt, placeMarksOf, viewBy}
+use Rattle.cells.specs.Seen.{storedAt, heldAt}
+use Rattle.filters.specs.Lanes.{laneOf, zonedValue, directed, undirected, stickZonedOf}
 
 -- ---- the marks of a taken record
 
@@ -56,20 +56,6 @@ no-marks connected renamed hasbutton hasaxis flags p kind low =
 
 -- ---- the filters
 
--- whether a filter looks at an event, where `dead` says that its element is an axis
-abbrev pub concernsType : EventType → Bool → Bool
-concernsType (Axis n c x) dead = true
-concernsType (Changed n c x) dead = dead
-concernsType (Pressed n c) dead = false
-concernsType (Released n c) dead = false
-concernsType (Repeated n c) dead = false
-concernsType Connected dead = false
-concernsType Disconnected dead = false
-concernsType Dropped dead = false
-
-abbrev pub concernsOf : Event → Bool → Bool
-concernsOf e dead = concernsType (e .event) dead
-
 -- what a hub's view is made of: a hub that has these, and blanks for what no view reads
 abbrev pub seenHub :
     List ℕ → List ℕ → List ℕ → List ℕ → List Bool → List Bool → List Bool → List Bool → List Bool → List Element → List ButtonData → List AxisData → List Bool → Hub
@@ -87,29 +73,6 @@ pub seen-same : (m : Hub) (e : Event) → filteredOf (m .filters) (viewOf (seenO
 unfolding filteredIn viewOf viewAt hatPlaceOf partnerPlaceOf convertsIn pressedAt valueAt
 seen-same m e = refl
 
--- an event that no filter looks at passes as it is
-passes-type :
-    (t : EventType) (p n : ℕ) (v : View) →
-    concernsType t (v .dead) ≡ false →
-    filteredOf true v (record { pad = p; time = n; event = t }) ≡ unfiltered v (record { pad = p; time = n; event = t })
-unfolding filteredOf dpadOf jitteredOf deadzonedOf joined
-passes-type (Axis n c x) p k v h = absurd (false≢true (sym h))
-passes-type (Changed n c x) p k v h = rw h
-passes-type (Pressed n c) p k v h = refl
-passes-type (Released n c) p k v h = refl
-passes-type (Repeated n c) p k v h = refl
-passes-type Connected p k v h = refl
-passes-type Disconnected p k v h = refl
-passes-type Dropped p k v h = refl
-
-off-same : (v : View) (e : Event) → filteredOf false v e ≡ unfiltered v e
-unfolding filteredOf
-off-same v e = refl
-
-pub untouched : (on : Bool) (v : View) (e : Event) → concernsOf e (v .dead) ≡ false → filteredOf on v e ≡ unfiltered v e
-untouched true v e h = passes-type (e .event) (e .pad) (e .time) v h
-untouched false v e h = off-same v e
-
 -- the flags that a view has are the hub's: setting them changes nothing
 pub same-flags : (h : Hub) (e : Event) → flagsSet (h .flags) (e .pad) (nameOf e) (viewOf h e .flags) ≡ h .flags
 unfolding flagsSet viewOf viewAt
@@ -118,32 +81,65 @@ same-flags h e =
     let other = flagPlace (e .pad) (partnerOf (nameOf e)) in
     ap (λ (l : List Bool). set l other (getD (h .flags) other false)) (set-getD (h .flags) own false) ∙ set-getD (h .flags) other false
 
-pub view-dead : (h : Hub) (e : Event) → viewOf h e .dead ≡ eqb (getD (h .kinds) (placeOf (h .codes) (e .pad) (codeOf e)) 0) elementAxis
+-- the lane that the code finds is that of the hub's view
+pub lane-is :
+    (on : Bool) (m : Hub) (e : Event) {lane place : ℕ} (k : ℕ) →
+    place ≡ placeOf (m .codes) (e .pad) (codeOf e) →
+    lane ≡ laneOf on (convertsIn (m .renamed) (m .converts) (m .newconverts) (e .pad)) (eqb (getD (m .kinds) place 0) elementAxis) e →
+    lane ≡ k →
+    laneOf on (viewOf m e .converts) (viewOf m e .dead) e ≡ k
 unfolding viewOf viewAt
-view-dead h e = refl
+lane-is on m e k ep el ek = rw (← ep) (sym el ∙ ek)
 
--- what was seen is the hub's view
-pub view-named :
-    (m : Hub) (e : Event) {name code : ℕ} →
-    name ≡ nameOf e →
-    code ≡ codeOf e →
-    viewAt m (e .pad) name (placeOf (m .codes) (e .pad) code) ≡ viewOf m e
-unfolding viewOf
-view-named m e {name} {code} en ec =
-    ap (λ (n : ℕ). viewAt m (e .pad) n (placeOf (m .codes) (e .pad) code)) en
-    ∙ ap (λ (c : ℕ). viewAt m (e .pad) (nameOf e) (placeOf (m .codes) (e .pad) c)) ec
+-- ---- what each lane sees of a hub
 
--- what is seen of a hub for an event
-abbrev pub SeenIn : Hub → Event → ℕ → ℕ → EventPlaces → Type 0
-SeenIn m e name code s =
-    EventPlacesAre (m .codes) (m .kinds) (m .names) (m .renames) (m .renamed) (m .converts) (m .newconverts) (m .hasbutton) (m .hasaxis) (m .flags) (e .pad) name code s
+-- a button's value: its own value and its element's threshold
+pub value-seen :
+    (m : Hub) (e : Event) {place : ℕ} →
+    place ≡ placeOf (m .codes) (e .pad) (codeOf e) →
+    zonedValue (storedAt (m .hasbutton) (m .hasaxis) (m .buttons) (m .axes) place) (getD (m .elements) place pastElement .threshold) e
+    ≡ zonedValue (viewOf m e .own) (viewOf m e .threshold) e
+unfolding viewOf viewAt valueAt
+value-seen m e ep = rw ep
+
+-- a hat that turns: whether its directions are held
+abbrev pub hatView : List ℕ → List Bool → List ButtonData → Event → View
+hatView codes hasbutton buttons e =
+    directed (heldAt codes hasbutton buttons (e .pad) (nameOf e) (positiveCode (nameOf e)))
+    (heldAt codes hasbutton buttons (e .pad) (nameOf e) (negativeCode (nameOf e)))
+
+pub hat-seen : (m : Hub) (e : Event) → hatView (m .codes) (m .hasbutton) (m .buttons) e ≡ directed (viewOf m e .positive) (viewOf m e .negative)
+unfolding viewOf viewAt pressedAt
+hat-seen m e = refl
+
+-- a stick: all but the directions, so it does not matter which pads convert
+abbrev pub stickIn : Hub → Event → ℕ → List Element → List ButtonData → List AxisData → Zoned
+stickIn m e place elements buttons axes =
+    stickZonedOf (viewAt (seenHub (m .codes) (m .kinds) (m .names) (m .renames) (m .renamed) [] [] (m .hasbutton) (m .hasaxis) elements buttons axes (m .flags))
+    (e .pad) (nameOf e) place) e
+
+pub stick-seen :
+    (m : Hub) (e : Event) {place : ℕ} →
+    place ≡ placeOf (m .codes) (e .pad) (codeOf e) →
+    stickIn m e place (m .elements) (m .buttons) (m .axes) ≡ stickZonedOf (viewOf m e) e
+unfolding viewOf viewAt valueAt
+stick-seen m e ep = rw ep
+
+-- what is gathered of a hub for a stick
+pub view-is :
+    (h : Hub) (p n k : ℕ) (s : EventPlaces) →
+    EventPlacesAre (h .codes) (h .kinds) (h .names) (h .renames) (h .renamed) (h .hasbutton) (h .hasaxis) (h .flags) p n k s →
+    viewBy s (elementAt h (s .own .place)) (buttonAt h (s .own .place)) (axisAt h (s .own .place)) (buttonAt h (s .partner .place)) (axisAt h (s .partner .place))
+    ≡ undirected (viewAt h p n k)
+unfolding viewBy eventPlacesAt placeMarksOf viewAt valueAt
+view-is h p n k s seen = rw (seen .is)
 
 pub flags-at :
-    (m : Hub) (e : Event) (f : Flags) {name code : ℕ} {s : EventPlaces} {flagged both : List Bool} →
+    (h : Hub) (e : Event) (f : Flags) {name k : ℕ} {s : EventPlaces} {flagged both : List Bool} →
     name ≡ nameOf e →
-    SeenIn m e name code s →
-    flagged ≡ set (m .flags) (s .flag) (f .own) →
+    EventPlacesAre (h .codes) (h .kinds) (h .names) (h .renames) (h .renamed) (h .hasbutton) (h .hasaxis) (h .flags) (e .pad) name k s →
+    flagged ≡ set (h .flags) (s .flag) (f .own) →
     both ≡ set flagged (s .other) (f .partner) →
-    both ≡ flagsSet (m .flags) (e .pad) (nameOf e) f
+    both ≡ flagsSet (h .flags) (e .pad) (nameOf e) f
 unfolding flagsSet eventPlacesAt
-flags-at m e f en seen e1 e2 = rw (e2, e1, seen .is, en)
+flags-at h e f en seen e1 e2 = rw (e2, e1, seen .is, en)

@@ -1,33 +1,44 @@
 -- What is left once a taken event is served: the event that the filters hand on, the flags, and the queue with what the record and the filters queue. The
 -- records, whose columns stand in the same arrays as the queue's, are as they were, so what is seen of them after the first push is what stood before it.
-use Prim.Native.Nat.{ℕ}
-use mathlib.Core.Path.{_≡_, sym, _∙_, ap, subst}
-use mathlib.Core.Bool.{Bool, false}
-use mathlib.Core.List.{List, append-nil}
-use lib.ListN.{getD, set}
+use Prim.Native.Nat.{ℕ, _+_, _<_}
+use mathlib.Core.Path.{_≡_, refl, sym, _∙_, ap, subst}
+use mathlib.Core.Bool.{Bool, true, false, cond}
+use mathlib.Core.List.{List, [], _∷_, _++_}
+use lib.ListN.{getD, length, set, take}
 use lib.Dec.{eqb}
+use lib.Seq.{take-all, take-suc}
 use lib.Ieee.{Float}
+use native.Mathlib.Omega.{arith}
+use native.Mathlib.Numerals.{add-one}
 use Rattle.rules.specs.declared.Hub.{Hub}
+use Rattle.rules.specs.declared.Event.{Event}
+use Rattle.rules.specs.declared.Element.{Element}
+use Rattle.rules.specs.declared.ButtonData.{ButtonData}
+use Rattle.rules.specs.declared.AxisData.{AxisData}
 use Rattle.rules.specs.declared.Dispatched.{Dispatched}
+use Rattle.rules.specs.declared.Zoned.{Zoned}
+use Rattle.rules.specs.declared.Flags.{Flags}
 use Rattle.rules.specs.declared.View.{View}
 use Rattle.rules.specs.Sheets.{elementAxis}
 use Rattle.rules.specs.Places.{placeOf}
 use Rattle.rules.specs.Events.{nameOf, codeOf, eventIf}
-use Rattle.rules.specs.Filters.{Filtered, filteredOf, unfiltered}
-use Rattle.rules.specs.Hub.{viewOf, pastElement, pastButton, pastAxis}
+use Rattle.rules.specs.Filters.{Filtered, filteredOf, dpadOf, jitteredOf, deadzonedOf}
+use Rattle.rules.specs.Hub.{convertsIn, viewAt, viewOf, elementAt, buttonAt, axisAt, pastElement}
 use Rattle.rules.specs.Step.{pushesOf, flagsSet, pushedOf, filteredIn, filteredHub}
 use Rattle.columns.specs.Columns.{elementsOf, buttonsOf, axesOf}
 use Rattle.hub.specs.declared.Head.{Head}
 use Rattle.hub.specs.Heads.{headFlags, headQueue}
 use Rattle.hub.specs.Lent.{Listed, columns, hubOf}
 use Rattle.gather.specs.declared.EventPlaces.{EventPlaces}
-use Rattle.gather.specs.EventPlaces.{viewBy, view-is}
-use Rattle.filters.specs.declared.FilteredEvent.{FilteredEvent}
-use Rattle.filters.specs.FilteredEvent.{FilteredEventIs, sent-event, sent-flags}
-use Rattle.queueing.specs.Queued.{Pushed, pushed-then}
+use Rattle.gather.specs.EventPlaces.{EventPlacesAre, viewBy}
+use Rattle.filters.specs.declared.dpad.Converted.{Converted}
+use Rattle.filters.specs.Converted.{counted}
+use Rattle.filters.specs.Queued.{queuedAt, queued-is}
+use Rattle.filters.specs.Lanes.{laneOf, zonedValue, undirected, stickZonedOf, clearingOf, Sends, none-sends, value-sends, hat-sends, stick-sends}
+use Rattle.cells.specs.Seen.{storedAt}
+use Rattle.queueing.specs.Queued.{Pushed, pushed-none, pushed-then}
 use Rattle.passing.specs.declared.Served.{Served}
-use Rattle.passing.specs.Waits.{waitsBehind, all-behind}
-use Rattle.passing.specs.Passing.{concernsOf, seenOf, seen-same, SeenIn, untouched, same-flags, view-dead, view-named, flags-at}
+use Rattle.passing.specs.Passing.{seenOf, seen-same, same-flags, lane-is, value-seen, hatView, hat-seen, stickIn, stick-seen, view-is, flags-at}
 
 -- what is left of d, r being what is handed on, where v is the view of d's event: vs are values, ts times, bs the queue's bytes and cs its codes
 pub record ServedIs
@@ -38,76 +49,147 @@ pub record ServedIs
   pub flags-are : flags' ≡ flagsSet flags (d .event .pad) (nameOf (d .event)) (filteredOf on v (d .event) .flags)
   pub queued : Pushed vs ts bs cs head waiting (pushesOf d (filteredOf on v (d .event) .gives)) vs' ts' bs' cs' (r .waiting)
 
--- ---- an event at which no filter looks
+-- ---- what a lane leaves
 
-alone-pushes : (d : Dispatched) (v : View) → eventIf (d .follows) (d .next) ≡ pushesOf d (unfiltered v (d .event) .gives)
-unfolding pushesOf
-alone-pushes d v = sym (append-nil (eventIf (d .follows) (d .next)))
+-- an event is handed on, and es are queued
+pub record HandsOn
+    (u : Event) (es : List Event) (head waiting : ℕ) (vs : List Float) (ts bs cs : List ℕ) (r : Served) (vs' : List Float) (ts' bs' cs' : List ℕ) :
+    Type 0 where
+  pub event : r .event ≡ u
+  pub queued : Pushed vs ts bs cs head waiting es vs' ts' bs' cs' (r .waiting)
 
-module _ (on : Bool) (m : Hub) (d : Dispatched) {vs vs' : List Float} {ts bs cs ts' bs' cs' : List ℕ} {head waiting more : ℕ} where
-  pub serves-unseen :
-      {looks : Bool} {place : ℕ} →
-      place ≡ placeOf (m .codes) (d .event .pad) (codeOf (d .event)) →
-      looks ≡ concernsOf (d .event) (eqb (getD (m .kinds) place 0) elementAxis) →
-      looks ≡ false →
-      Pushed vs ts bs cs head waiting (eventIf (d .follows) (d .next)) vs' ts' bs' cs' more →
-      ServedIs on (viewOf m (d .event)) d (m .flags) head waiting vs ts bs cs (record { event = d .event; waiting = more }) (m .flags) vs' ts' bs' cs'
-  serves-unseen ep el off p =
-      let e = d .event in
-      let v = viewOf m e in
-      let is : filteredOf on v e ≡ unfiltered v e = untouched on v e (rw (view-dead m e, ← ep, ← el) off) in
-      record {
-        event = rw is;
-        flags-are = sym (ap (λ (f : Filtered). flagsSet (m .flags) (e .pad) (nameOf e) (f .flags)) is ∙ same-flags m e);
-        queued = rw (is, ← alone-pushes d v) p;
-      }
+-- what a stick's event leaves, z being what jitter and deadzone make of it
+pub record StickIs
+    (z : Zoned) (e : Event) (flags : List Bool) (head waiting : ℕ) (vs : List Float) (ts bs cs : List ℕ) (r : Served) (flags' : List Bool) (vs' : List Float)
+    (ts' bs' cs' : List ℕ) :
+    Type 0 where
+  pub hands : HandsOn (z .event) (clearingOf z) head waiting vs ts bs cs r vs' ts' bs' cs'
+  pub flags-are : flags' ≡ flagsSet flags (e .pad) (nameOf e) (z .flags)
 
--- ---- an event that passes the filters
+-- one event of a hat's is pushed more
+pub hat-more :
+    (v : View) (e : Event) (x : ℕ) {u : Event} {vs vs1 vs2 : List Float} {ts bs cs ts1 bs1 cs1 ts2 bs2 cs2 : List ℕ} {head waiting waiting1 waiting2 : ℕ} →
+    x < length (dpadOf v e .queued) →
+    Pushed vs ts bs cs head waiting (take x (dpadOf v e .queued)) vs1 ts1 bs1 cs1 waiting1 →
+    u ≡ queuedAt v e x →
+    Pushed vs1 ts1 bs1 cs1 head waiting1 (u ∷ []) vs2 ts2 bs2 cs2 waiting2 →
+    Pushed vs ts bs cs head waiting (take (x + 1) (dpadOf v e .queued)) vs2 ts2 bs2 cs2 waiting2
+hat-more v e x within done eu p =
+    rw (add-one, take-suc (dpadOf v e .queued) x e within, ← queued-is e v e x within, ← eu) (pushed-then done p)
 
-serves-sent :
-    (on : Bool) (v : View) (d : Dispatched) (flags : List Bool) {f : FilteredEvent} {both : List Bool} {vs vs1 vs2 : List Float}
-    {ts bs cs ts1 bs1 cs1 ts2 bs2 cs2 : List ℕ} {head waiting more all : ℕ} →
-    Pushed vs ts bs cs head waiting (eventIf (d .follows) (d .next)) vs1 ts1 bs1 cs1 more →
-    FilteredEventIs on v (d .event) f →
-    both ≡ flagsSet flags (d .event .pad) (nameOf (d .event)) (f .flags) →
-    Pushed vs1 ts1 bs1 cs1 head more (waitsBehind v (d .event) f (f .count)) vs2 ts2 bs2 cs2 all →
-    ServedIs on v d flags head waiting vs ts bs cs (record { event = f .event; waiting = all }) both vs2 ts2 bs2 cs2
-unfolding pushesOf
-serves-sent on v d flags first sent ef rest =
-    let e = d .event in
+-- all of them are, as many as there are
+pub hat-left :
+    (e : Event) {v w : View} {g : Converted} {x : ℕ} {vs vs1 : List Float} {ts bs cs ts1 bs1 cs1 : List ℕ} {head waiting all : ℕ} →
+    v ≡ w →
+    g ≡ counted (dpadOf v e) →
+    x ≡ g .count →
+    Pushed vs ts bs cs head waiting (take x (dpadOf v e .queued)) vs1 ts1 bs1 cs1 all →
+    HandsOn (dpadOf w e .event) (dpadOf w e .queued) head waiting vs ts bs cs (record { event = g .event; waiting = all }) vs1 ts1 bs1 cs1
+hat-left e {v} {w} {g} {x} ev eg ex p =
+    let all : x ≡ length (dpadOf v e .queued) = ex ∙ ap (λ (r : Converted). r .count) eg in
+    record { event = rw (eg, ev); queued = rw (← ev, ← take-all x (dpadOf v e .queued) (omega (arith, all))) p }
+
+-- what a stick's event leaves, from what is gathered of a hub and made of it
+pub stick-left :
+    (h : Hub) (e : Event) (k : ℕ) {name : ℕ} {s : EventPlaces} {v : View} {z : Zoned} {flagged both : List Bool} {vs vs1 : List Float}
+    {ts bs cs ts1 bs1 cs1 : List ℕ} {head waiting all : ℕ} →
+    name ≡ nameOf e →
+    EventPlacesAre (h .codes) (h .kinds) (h .names) (h .renames) (h .renamed) (h .hasbutton) (h .hasaxis) (h .flags) (e .pad) name k s →
+    v
+    ≡ viewBy s (elementAt h (s .own .place)) (buttonAt h (s .own .place)) (axisAt h (s .own .place)) (buttonAt h (s .partner .place))
+    (axisAt h (s .partner .place)) →
+    z ≡ deadzonedOf v (jitteredOf v e) →
+    flagged ≡ set (h .flags) (s .flag) (z .flags .own) →
+    both ≡ set flagged (s .other) (z .flags .partner) →
+    Pushed vs ts bs cs head waiting (clearingOf z) vs1 ts1 bs1 cs1 all →
+    StickIs (stickZonedOf (viewAt h (e .pad) (nameOf e) k) e) e (h .flags) head waiting vs ts bs cs (record { event = z .event; waiting = all }) both vs1 ts1 bs1 cs1
+stick-left h e k {name} {s} {v} {z} en seen ev ez e1 e2 p =
+    let sees : v ≡ undirected (viewAt h (e .pad) (nameOf e) k) =
+    ev ∙ view-is h (e .pad) name k s seen ∙ ap (λ (n : ℕ). undirected (viewAt h (e .pad) n k)) en in
+    let is : z ≡ stickZonedOf (viewAt h (e .pad) (nameOf e) k) e = ez ∙ ap (λ (w : View). deadzonedOf w (jitteredOf w e)) sees in
     record {
-      event = ap (λ (s : FilteredEvent). s .event) (sent .is) ∙ sent-event on v e;
-      flags-are = ef ∙ ap (flagsSet flags (e .pad) (nameOf e)) (ap (λ (s : FilteredEvent). s .flags) (sent .is) ∙ sent-flags on v e);
-      queued = rw (← all-behind on v e sent) (pushed-then first rest);
+      hands = record { event = ap (λ (y : Zoned). y .event) is; queued = rw is at p };
+      flags-are = flags-at h e (z .flags) en seen e1 e2 ∙ ap (λ (y : Zoned). flagsSet (h .flags) (e .pad) (nameOf e) (y .flags)) is;
     }
 
-pub serves-seen :
-    (on : Bool) (m : Hub) (d : Dispatched) (ms : List Bool) {name code : ℕ} {s : EventPlaces} {v : View} {f : FilteredEvent} {flagged both : List Bool}
-    {vs vs1 vs2 : List Float} {ts bs cs ts1 bs1 cs1 ts2 bs2 cs2 : List ℕ} {head waiting more all : ℕ} →
-    m .elements ≡ elementsOf vs ms →
-    m .buttons ≡ buttonsOf vs ts ms →
-    m .axes ≡ axesOf vs ts →
+-- ---- from what a lane leaves to what is left
+
+module _ (on : Bool) (m : Hub) (d : Dispatched) {vs vs1 vs2 : List Float} {ts bs cs ts1 bs1 cs1 ts2 bs2 cs2 : List ℕ} {head waiting more : ℕ} {r : Served}
+    (first : Pushed vs ts bs cs head waiting (eventIf (d .follows) (d .next)) vs1 ts1 bs1 cs1 more) where
+  pub serves :
+      {u : Event} {f : Flags} {es : List Event} {flags' : List Bool} →
+      Sends on (viewOf m (d .event)) (d .event) u f es →
+      HandsOn u es head more vs1 ts1 bs1 cs1 r vs2 ts2 bs2 cs2 →
+      flags' ≡ flagsSet (m .flags) (d .event .pad) (nameOf (d .event)) f →
+      ServedIs on (viewOf m (d .event)) d (m .flags) head waiting vs ts bs cs r flags' vs2 ts2 bs2 cs2
+  unfolding pushesOf
+  serves sends hands ef =
+      let e = d .event in
+      record {
+        event = hands .event ∙ sym (sends .event);
+        flags-are = ef ∙ ap (flagsSet (m .flags) (e .pad) (nameOf e)) (sym (sends .flags));
+        queued = rw (sends .queued) (pushed-then first (hands .queued));
+      }
+
+-- nothing is queued, and the flags stay
+pub serves-quiet :
+    (on : Bool) (m : Hub) (d : Dispatched) {vs vs1 : List Float} {ts bs cs ts1 bs1 cs1 : List ℕ} {head waiting more : ℕ} {u z : Event} →
     Pushed vs ts bs cs head waiting (eventIf (d .follows) (d .next)) vs1 ts1 bs1 cs1 more →
-    name ≡ nameOf (d .event) →
-    code ≡ codeOf (d .event) →
-    SeenIn m (d .event) name code s →
-    v
-    ≡ viewBy s (getD (elementsOf vs1 ms) (s .own .place) pastElement) (getD (buttonsOf vs1 ts1 ms) (s .own .place) pastButton)
-    (getD (axesOf vs1 ts1) (s .own .place) pastAxis) (getD (buttonsOf vs1 ts1 ms) (s .positive .place) pastButton)
-    (getD (buttonsOf vs1 ts1 ms) (s .negative .place) pastButton) (getD (buttonsOf vs1 ts1 ms) (s .partner .place) pastButton)
-    (getD (axesOf vs1 ts1) (s .partner .place) pastAxis) →
-    FilteredEventIs on v (d .event) f →
-    flagged ≡ set (m .flags) (s .flag) (f .flags .own) →
-    both ≡ set flagged (s .other) (f .flags .partner) →
-    Pushed vs1 ts1 bs1 cs1 head more (waitsBehind v (d .event) f (f .count)) vs2 ts2 bs2 cs2 all →
-    ServedIs on (viewOf m (d .event)) d (m .flags) head waiting vs ts bs cs (record { event = f .event; waiting = all }) both vs2 ts2 bs2 cs2
-serves-seen on m d ms {name} {code} {s} {v} {f} {both = both} {vs} {vs1} {vs2} {ts} {bs} {cs} {ts2 = ts2} {bs2} {cs2} {head} {waiting} {all = all}
-    eelements ebuttons eaxes first en ec seen ev sent e1 e2 rest =
-    let e = d .event in
-    let is = view-is m (e .pad) name code s seen ∙ view-named m e en ec in
-    let stood : v ≡ viewOf m e = ev ∙ rw (first .elements ms, first .buttons ms, first .axes, ← eelements, ← ebuttons, ← eaxes) is in
-    subst (λ (w : View). ServedIs on w d (m .flags) head waiting vs ts bs cs (record { event = f .event; waiting = all }) both vs2 ts2 bs2 cs2) stood
-    (serves-sent on v d (m .flags) first sent (flags-at m e (f .flags) en seen e1 e2) rest)
+    Sends on (viewOf m (d .event)) (d .event) u (viewOf m (d .event) .flags) [] →
+    z ≡ u →
+    ServedIs on (viewOf m (d .event)) d (m .flags) head waiting vs ts bs cs (record { event = z; waiting = more }) (m .flags) vs1 ts1 bs1 cs1
+serves-quiet on m d first sends is = serves on m d first sends (record { event = is; queued = pushed-none }) (sym (same-flags m (d .event)))
+
+-- ---- by the lane: what was seen after the first push is what stood before it
+
+module _ (on : Bool) (m : Hub) (d : Dispatched) (ms : List Bool) {vs vs1 : List Float} {ts bs cs ts1 bs1 cs1 : List ℕ}
+    {head waiting more lane place : ℕ} (eelements : m .elements ≡ elementsOf vs ms) (ebuttons : m .buttons ≡ buttonsOf vs ts ms)
+    (eaxes : m .axes ≡ axesOf vs ts)
+    (first : Pushed vs ts bs cs head waiting (eventIf (d .follows) (d .next)) vs1 ts1 bs1 cs1 more)
+    (ep : place ≡ placeOf (m .codes) (d .event .pad) (codeOf (d .event)))
+    (el :
+    lane
+    ≡ laneOf on (convertsIn (m .renamed) (m .converts) (m .newconverts) (d .event .pad)) (eqb (getD (m .kinds) place 0) elementAxis) (d .event)) where
+  pub serves-none :
+      lane ≡ 0 → ServedIs on (viewOf m (d .event)) d (m .flags) head waiting vs ts bs cs (record { event = d .event; waiting = more }) (m .flags) vs1 ts1 bs1 cs1
+  serves-none is = serves-quiet on m d first (none-sends on (viewOf m (d .event)) (d .event) (lane-is on m (d .event) 0 ep el is)) refl
+
+  pub serves-value :
+      {z : Event} →
+      lane ≡ 1 →
+      z
+      ≡ zonedValue (storedAt (m .hasbutton) (m .hasaxis) (buttonsOf vs1 ts1 ms) (axesOf vs1 ts1) place) (getD (elementsOf vs1 ms) place pastElement .threshold)
+      (d .event) →
+      ServedIs on (viewOf m (d .event)) d (m .flags) head waiting vs ts bs cs (record { event = z; waiting = more }) (m .flags) vs1 ts1 bs1 cs1
+  serves-value is ez =
+      serves-quiet on m d first (value-sends on (viewOf m (d .event)) (d .event) (lane-is on m (d .event) 1 ep el is))
+      (ez ∙ rw (first .elements ms, first .buttons ms, first .axes, ← eelements, ← ebuttons, ← eaxes) (value-seen m (d .event) ep))
+
+  pub serves-hat :
+      {r : Served} {vs2 : List Float} {ts2 bs2 cs2 : List ℕ} →
+      lane ≡ 2 →
+      let g = dpadOf (hatView (m .codes) (m .hasbutton) (buttonsOf vs1 ts1 ms) (d .event)) (d .event) in
+      HandsOn (g .event) (g .queued) head more vs1 ts1 bs1 cs1 r vs2 ts2 bs2 cs2 →
+      ServedIs on (viewOf m (d .event)) d (m .flags) head waiting vs ts bs cs r (m .flags) vs2 ts2 bs2 cs2
+  serves-hat is hands =
+      serves on m d first (hat-sends on (viewOf m (d .event)) (d .event) (lane-is on m (d .event) 2 ep el is))
+      (rw (← hat-seen m (d .event), ebuttons, ← first .buttons ms) hands) (sym (same-flags m (d .event)))
+
+  pub serves-stick :
+      {r : Served} {flags' : List Bool} {vs2 : List Float} {ts2 bs2 cs2 : List ℕ} →
+      lane ≡ 3 →
+      StickIs (stickIn m (d .event) place (elementsOf vs1 ms) (buttonsOf vs1 ts1 ms) (axesOf vs1 ts1)) (d .event) (m .flags) head more vs1 ts1 bs1 cs1 r flags'
+      vs2 ts2 bs2 cs2 →
+      ServedIs on (viewOf m (d .event)) d (m .flags) head waiting vs ts bs cs r flags' vs2 ts2 bs2 cs2
+  serves-stick {r} {flags'} {vs2} {ts2} {bs2} {cs2} is left =
+      let e = d .event in
+      let seen : stickIn m e place (elementsOf vs1 ms) (buttonsOf vs1 ts1 ms) (axesOf vs1 ts1) ≡ stickZonedOf (viewOf m e) e =
+      ap (λ (l : List Element). stickIn m e place l (buttonsOf vs1 ts1 ms) (axesOf vs1 ts1)) (first .elements ms ∙ sym eelements)
+      ∙ ap (λ (l : List ButtonData). stickIn m e place (m .elements) l (axesOf vs1 ts1)) (first .buttons ms ∙ sym ebuttons)
+      ∙ ap (stickIn m e place (m .elements) (m .buttons)) (first .axes ∙ sym eaxes)
+      ∙ stick-seen m e ep in
+      let stood = subst (λ (z : Zoned). StickIs z e (m .flags) head more vs1 ts1 bs1 cs1 r flags' vs2 ts2 bs2 cs2) seen left in
+      serves on m d first (stick-sends on (viewOf m e) e (lane-is on m e 3 ep el is)) (stood .hands) (stood .flags-are)
 
 -- ---- the hub
 

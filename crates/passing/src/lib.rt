@@ -2,17 +2,23 @@
 // read. Each answer is the law book's, as if all had been gathered. The gates stand inside functions that are lent the arrays, and not in the pump's loop, where
 // a branch that falls through would cost a join of all that is lent.
 ghost use mathlib.Core.Path.{_≡_};
+ghost use mathlib.Core.List.{[]};
+ghost use Prim.Native.Nat.{_≤_};
 ghost use lib.ListN.{getD};
 ghost use lib.Dec.{eqb};
+ghost use Rattle.rules.specs.Names.{nowhere};
 ghost use Rattle.rules.specs.Sheets.{elementAxis};
-ghost use Rattle.rules.specs.Events.{codeOf, eventIf};
-ghost use Rattle.rules.specs.Hub.{viewOf};
+ghost use Rattle.rules.specs.Events.{nameOf, codeOf, eventIf};
+ghost use Rattle.rules.specs.Filters.{dpadOf};
+ghost use Rattle.rules.specs.Hub.{convertsIn, viewAt, viewOf, pastElement};
 ghost use Rattle.pad.specs.Found.{Placed};
 ghost use Rattle.columns.specs.Columns.{elementsOf, buttonsOf, axesOf};
+ghost use Rattle.cells.specs.Seen.{storedAt};
+ghost use Rattle.filters.specs.Lanes.{laneOf, zonedValue, stickZonedOf};
 ghost use Rattle.queueing.specs.Queued.{Pushed};
 ghost use Rattle.taking.specs.Taking.{givesOf};
-ghost use Rattle.passing.specs.Passing.{concernsOf, seenHub, MarkedIs};
-ghost use Rattle.passing.specs.Served.{ServedIs};
+ghost use Rattle.passing.specs.Passing.{seenHub, hatView, MarkedIs};
+ghost use Rattle.passing.specs.Served.{HandsOn, StickIs, ServedIs};
 use columns::Marks;
 use columns::QueueBytes;
 use columns::QueueCodes;
@@ -22,8 +28,11 @@ use rules::ELEMENT_AXIS;
 use rules::Event;
 use rules::EventType;
 use rules::FLAGS_PER_PAD;
+use rules::Flags;
 use rules::KIND_CONNECTED;
 use rules::PLACES_PER_PAD;
+use rules::Partner;
+use rules::View;
 use taking::Taken;
 
 // ---- the marks of a taken record
@@ -56,20 +65,52 @@ pub fn mark_joins(
 
 // ---- a taken event served: the filters, the flags and the queue in one
 
-// Whether a filter looks at an event, whose element stands at a place: a stick's always, a button's value where the element is an axis.
-fn concerns(kinds: &[u8; 208], e: Event, place: usize) -> bool
-    ensures { λ r. ⌜ r ≡ concernsOf e (eqb (getD (now (kinds .entry)) place 0) elementAxis) ⌝ }
+const NO_LANE: u8 = 0;
+
+const VALUE_LANE: u8 = 1;
+
+const HAT_LANE: u8 = 2;
+
+const STICK_LANE: u8 = 3;
+
+// Which filters look at an event: none, or those of a button's value, of a hat that turns, of a stick.
+fn lane_of<'a>(
+    kinds: &'a [u8; 208],
+    renamed: &'a [bool; 4],
+    converts: &'a [bool; 4],
+    newconverts: &'a [bool; 4],
+    on: bool,
+    e: Event,
+    place: usize,
+) -> u8
+    ensures { λ r. ⌜ r ≡ laneOf on (convertsIn (now (renamed .entry)) (now (converts .entry)) (now (newconverts .entry)) (e .pad))
+        (eqb (getD (now (kinds .entry)) place 0) elementAxis) e ⌝ }
 {
+    if !on {
+        return NO_LANE;
+    }
     let t = e.event;
     match t {
-        EventType::Axis(_, _, _) => true,
-        EventType::Changed(_, _, _) => pad::kind_at(kinds, place) == ELEMENT_AXIS,
-        EventType::Pressed(_, _) => false,
-        EventType::Released(_, _) => false,
-        EventType::Repeated(_, _) => false,
-        EventType::Connected => false,
-        EventType::Disconnected => false,
-        EventType::Dropped => false,
+        EventType::Axis(n, _, _) => {
+            if names::is_hat(n) {
+                if gather::converts_now(renamed, converts, newconverts, e.pad) {
+                    return HAT_LANE;
+                }
+            }
+            STICK_LANE
+        }
+        EventType::Changed(_, _, _) => {
+            if pad::kind_at(kinds, place) == ELEMENT_AXIS {
+                return VALUE_LANE;
+            }
+            NO_LANE
+        }
+        EventType::Pressed(_, _) => NO_LANE,
+        EventType::Released(_, _) => NO_LANE,
+        EventType::Repeated(_, _) => NO_LANE,
+        EventType::Connected => NO_LANE,
+        EventType::Disconnected => NO_LANE,
+        EventType::Dropped => NO_LANE,
     }
 }
 
@@ -105,8 +146,165 @@ pub struct Served {
     pub waiting: u8,
 }
 
-// What its record queues is pushed, the event passes the filters where one looks at it, the flags are set, and what the filters queue is pushed, each event made
-// only then.
+// A button's value through the deadzone.
+fn value_sent<'a>(
+    hasbutton: &'a [bool; 208],
+    hasaxis: &'a [bool; 208],
+    values: &'a Values,
+    times: &'a Times,
+    marks: &'a Marks,
+    e: Event,
+    place: usize,
+) -> Event
+    requires { ⌜ place ≤ nowhere ⌝ }
+    ensures { λ r. ⌜ r ≡ zonedValue (storedAt (now (hasbutton .entry)) (now (hasaxis .entry)) (buttonsOf (now (values .entry)) (now (times .entry)) (now (marks .entry)))
+        (axesOf (now (values .entry)) (now (times .entry))) place)
+        (getD (elementsOf (now (values .entry)) (now (marks .entry))) place pastElement .threshold) e ⌝ }
+{
+    let own = cells::value_in(hasbutton, hasaxis, values, times, marks, place);
+    let element = columns::element_at(values, marks, place);
+    filters::zoned_value(own, element.threshold, e)
+}
+
+// What a hat that turns sees: whether its two directions are held.
+fn hat_view<'a>(
+    codes: &'a [u32; 208],
+    hasbutton: &'a [bool; 208],
+    values: &'a Values,
+    times: &'a Times,
+    marks: &'a Marks,
+    e: Event,
+) -> View
+    ensures { λ r. ⌜ r ≡ hatView (now (codes .entry)) (now (hasbutton .entry)) (buttonsOf (now (values .entry)) (now (times .entry)) (now (marks .entry))) e ⌝ }
+{
+    let n = events::name_of(e);
+    let plus = names::positive_code(n);
+    let minus = names::negative_code(n);
+    View {
+        converts: true,
+        positive: cells::held_in(codes, hasbutton, values, times, marks, e.pad, n, plus),
+        negative: cells::held_in(codes, hasbutton, values, times, marks, e.pad, n, minus),
+        stored: false,
+        stick: 0.0,
+        dead: false,
+        threshold: 0.0,
+        own: 0.0,
+        partner: Partner {
+            stands: false,
+            code: 0,
+            value: 0.0,
+        },
+        flags: Flags {
+            own: false,
+            partner: false,
+        },
+    }
+}
+
+// A hat's axis turned into presses and releases of its directions, which are pushed.
+fn turn_hat<'a>(
+    codes: &'a [u32; 208],
+    hasbutton: &'a [bool; 208],
+    values: &mut Values,
+    times: &mut Times,
+    marks: &'a Marks,
+    queuebytes: &mut QueueBytes,
+    queuecodes: &mut QueueCodes,
+    head: u8,
+    waiting: u8,
+    e: Event,
+) -> Served
+    ensures { λ r. ⌜ HandsOn (dpadOf (hatView (now (codes .entry)) (now (hasbutton .entry)) (buttonsOf (now (values .entry)) (now (times .entry)) (now (marks .entry))) e) e .event)
+        (dpadOf (hatView (now (codes .entry)) (now (hasbutton .entry)) (buttonsOf (now (values .entry)) (now (times .entry)) (now (marks .entry))) e) e .queued)
+        head waiting (now (values .entry)) (now (times .entry)) (now (queuebytes .entry)) (now (queuecodes .entry)) r
+        (now (values .exit)) (now (times .exit)) (now (queuebytes .exit)) (now (queuecodes .exit)) ⌝ }
+{
+    let v = hat_view(codes, hasbutton, values, times, marks, e);
+    let g = filters::dpad::dpad(v, e);
+    let count = choices::wide(g.count);
+    let mut all = waiting;
+    let mut x: usize = 0;
+    while x < count {
+        let u = filters::dpad::queued(v, e, x);
+        x = x + 1;
+        all = queueing::push(values, times, queuebytes, queuecodes, head, all, u);
+    }
+    let z = g.event;
+    Served {
+        event: z,
+        waiting: all,
+    }
+}
+
+// A stick's value through jitter and deadzone: the flags are set, and the event that clears the partner is pushed.
+fn pass_stick<'a>(
+    codes: &'a [u32; 208],
+    kinds: &'a [u8; 208],
+    names: &'a [u8; 208],
+    renames: &'a [u8; 208],
+    renamed: &'a [bool; 4],
+    hasbutton: &'a [bool; 208],
+    hasaxis: &'a [bool; 208],
+    values: &mut Values,
+    times: &mut Times,
+    marks: &'a Marks,
+    queuebytes: &mut QueueBytes,
+    queuecodes: &mut QueueCodes,
+    flags: &mut [bool; 24],
+    head: u8,
+    waiting: u8,
+    e: Event,
+    place: usize,
+) -> Served
+    requires { ⌜ place ≤ nowhere ⌝ }
+    ensures { λ r. ⌜ StickIs (stickZonedOf (viewAt (seenHub (now (codes .entry)) (now (kinds .entry)) (now (names .entry)) (now (renames .entry))
+        (now (renamed .entry)) [] [] (now (hasbutton .entry)) (now (hasaxis .entry)) (elementsOf (now (values .entry)) (now (marks .entry)))
+        (buttonsOf (now (values .entry)) (now (times .entry)) (now (marks .entry))) (axesOf (now (values .entry)) (now (times .entry))) (now (flags .entry)))
+        (e .pad) (nameOf e) place) e) e (now (flags .entry)) head waiting
+        (now (values .entry)) (now (times .entry)) (now (queuebytes .entry)) (now (queuecodes .entry)) r (now (flags .exit))
+        (now (values .exit)) (now (times .exit)) (now (queuebytes .exit)) (now (queuecodes .exit)) ⌝ }
+{
+    let s = gather::stick_places(
+        codes,
+        kinds,
+        names,
+        renames,
+        renamed,
+        hasbutton,
+        hasaxis,
+        flags,
+        e.pad,
+        events::name_of(e),
+        place,
+    );
+    let v = cells::view_in(values, times, marks, s);
+    let f = filters::unturned(v, e);
+    let m = f.flags;
+    pad::mark_flag(flags, s.flag, m.own);
+    pad::mark_flag(flags, s.other, m.partner);
+    let z = f.event;
+    if f.clears {
+        return Served {
+            event: z,
+            waiting: queueing::push(
+                values,
+                times,
+                queuebytes,
+                queuecodes,
+                head,
+                waiting,
+                f.clearing,
+            ),
+        };
+    }
+    Served {
+        event: z,
+        waiting: waiting,
+    }
+}
+
+// What its record queues is pushed, and the event passes the filters that look at it: each is shown what it asks for and no more. The flags are set, and what
+// the filters queue is pushed, each event made only then.
 pub fn serve<'a>(
     codes: &'a [u32; 208],
     kinds: &'a [u8; 208],
@@ -137,47 +335,50 @@ pub fn serve<'a>(
     let more = push_next(values, times, queuebytes, queuecodes, t);
     let e = t.event;
     let place = t.place;
-    if !concerns(kinds, e, place) {
+    let lane = lane_of(kinds, renamed, converts, newconverts, on, e, place);
+    if lane == NO_LANE {
         return Served {
             event: e,
             waiting: more,
         };
     }
-    let code = events::code_of(e);
-    let s = gather::event_places(
+    if lane == VALUE_LANE {
+        return Served {
+            event: value_sent(hasbutton, hasaxis, values, times, marks, e, place),
+            waiting: more,
+        };
+    }
+    if lane == HAT_LANE {
+        return turn_hat(
+            codes,
+            hasbutton,
+            values,
+            times,
+            marks,
+            queuebytes,
+            queuecodes,
+            t.head,
+            more,
+            e,
+        );
+    }
+    pass_stick(
         codes,
         kinds,
         names,
         renames,
         renamed,
-        converts,
-        newconverts,
         hasbutton,
         hasaxis,
+        values,
+        times,
+        marks,
+        queuebytes,
+        queuecodes,
         flags,
-        e.pad,
-        events::name_of(e),
-        code,
-        e.pad,
-        code,
+        t.head,
+        more,
+        e,
         place,
-    );
-    let v = cells::view_in(values, times, marks, s);
-    let f = filters::filter(on, v, e);
-    let m = f.flags;
-    pad::mark_flag(flags, s.flag, m.own);
-    pad::mark_flag(flags, s.other, m.partner);
-    let count = choices::wide(f.count);
-    let mut all = more;
-    let mut x: usize = 0;
-    while x < count {
-        x = x + 1;
-        let u = filters::queued_behind(e, v, e, f, x);
-        all = queueing::push(values, times, queuebytes, queuecodes, t.head, all, u);
-    }
-    let z = f.event;
-    Served {
-        event: z,
-        waiting: all,
-    }
+    )
 }

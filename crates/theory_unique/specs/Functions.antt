@@ -17,7 +17,6 @@ use Rattle.pad.specs.Found.{Placed, Named}
 use Rattle.gather.specs.EventPlaces.{PlaceIs, FoundIs, EventPlacesAre}
 use Rattle.rules.specs.Hub.{hatPlaceOf, partnerPlaceOf}
 use Rattle.filters.specs.Converted.{ConvertedIs}
-use Rattle.filters.specs.FilteredEvent.{FilteredEventIs}
 use Rattle.turn.specs.Turn.{RingIs}
 use Rattle.lines.specs.Text.{numberText, hexText, wordOf, lineOf, stoppedLine, heldOf, linesOf}
 use Rattle.lines.specs.Appending.{laidOver, Appended}
@@ -57,17 +56,14 @@ unique-present-place names renames renamed p name = unique-place _
 pub unique-partner-place : (names renames : List ℕ) (renamed : List Bool) (p name : ℕ) → One (PlaceIs (partnerPlaceOf names renames renamed p name))
 unique-partner-place names renames renamed p name = unique-place _
 
-pub unique-event-places : (codes kinds names renames : List ℕ) (renamed converts newconverts hasbutton hasaxis flags : List Bool) (p name code : ℕ)
-    → One (EventPlacesAre codes kinds names renames renamed converts newconverts hasbutton hasaxis flags p name code)
-unique-event-places codes kinds names renames renamed converts newconverts hasbutton hasaxis flags p name code = one-owed _ (λ r w. w .is)
+pub unique-event-places : (codes kinds names renames : List ℕ) (renamed hasbutton hasaxis flags : List Bool) (p name own : ℕ)
+    → One (EventPlacesAre codes kinds names renames renamed hasbutton hasaxis flags p name own)
+unique-event-places codes kinds names renames renamed hasbutton hasaxis flags p name own = one-owed _ (λ r w. w .is)
 
 -- ---- hats, filters: what they give, and how many events they queue at most
 
 pub unique-dpad : (v : View) (e : Event) → One (ConvertedIs v e)
 unique-dpad v e = one-owed _ (λ r w. w .is)
-
-pub unique-filter : (on : Bool) (v : View) (e : Event) → One (FilteredEventIs on v e)
-unique-filter on v e = one-owed _ (λ r w. w .is)
 
 -- ---- repeat: the first due place, and that the button there is due
 

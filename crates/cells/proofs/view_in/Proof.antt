@@ -1,4 +1,4 @@
--- `cells::view_in` meets its contract: what the seven reads ensure, put into `view_of`.
+-- `cells::view_in` meets its contract: what the five reads ensure, put into `view_of`.
 use borrow.Author.Needs.{needs}
 use native.Mathlib.Omega.{arith}
 use Rattle.cells.proofs.view_in.Statement.{statement}
@@ -16,16 +16,8 @@ axis-at-requires c κs = search needs
 button-at-requires-2 : tie.Need-button-at-requires-2
 button-at-requires-2 c κs = search needs
 
-button-at-requires-3 : tie.Need-button-at-requires-3
-button-at-requires-3 c κs = search needs
-
-button-at-requires-4 : tie.Need-button-at-requires-4
-button-at-requires-4 c κs =
-    omega (arith, c .before .before .before .before .before .before .before .before .before .pre)
-
 axis-at-requires-2 : tie.Need-axis-at-requires-2
-axis-at-requires-2 c κs =
-    omega (arith, c .before .before .before .before .before .before .before .before .before .before .pre)
+axis-at-requires-2 c κs = search needs
 
 view-of-requires : tie.Need-view-of-requires
 view-of-requires c κs = search needs
@@ -33,13 +25,11 @@ view-of-requires c κs = search needs
 returns : tie.Need-returns
 returns c =
     let partner = c .before in
-    let own = c .before .before .before .before .before in
+    let own = c .before .before .before in
     rw (
       c .view-of .ensures,
       partner .axis-at2 .ensures,
-      partner .before .button-at4 .ensures,
-      partner .before .before .button-at3 .ensures,
-      partner .before .before .before .button-at2 .ensures,
+      partner .before .button-at2 .ensures,
       own .axis-at .ensures,
       own .before .button-at .ensures,
       own .before .before .element-at .ensures,
@@ -53,8 +43,6 @@ view-in-spec =
     button-at-requires
     axis-at-requires
     button-at-requires-2
-    button-at-requires-3
-    button-at-requires-4
     axis-at-requires-2
     view-of-requires
     returns)

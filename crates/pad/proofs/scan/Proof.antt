@@ -2,18 +2,18 @@
 use Prim.Native.Nat.{_+_, _≤_}
 use mathlib.Core.Path.{_≡_, refl, sym, _∙_}
 use native.Mathlib.Omega.{arith}
-use Rattle.rules.specs.Names.{placesPerPad, nowhere}
+use Rattle.rules.specs.Names.{nowhere}
 use Rattle.rules.specs.Places.{scanOf}
 use Rattle.pad.specs.Search.{scan-here, scan-next, scan-none}
 use Rattle.pad.proofs.scan.Statement.{statement}
 use Rattle.pad.proofs.scan.Tie as tie
 
 abbrev Inv-loop : tie.InvT-loop
-Inv-loop names start name place₀ left₀ place left =
-    (place + left ≤ nowhere) × (scanOf names left place name ≡ scanOf names placesPerPad start name)
+Inv-loop names start n name place₀ left₀ place left =
+    (place + left ≤ nowhere) × (scanOf names left place name ≡ scanOf names n start name)
 
 abbrev μ-loop : tie.MeasureT-loop
-μ-loop names start name place₀ left₀ place left = left
+μ-loop names start n name place₀ left₀ place left = left
 
 loop-holds : tie.Need-loop-holds Inv-loop μ-loop
 loop-holds c = (c .pre, refl)

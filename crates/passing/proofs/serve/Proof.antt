@@ -1,61 +1,29 @@
--- `passing::serve` meets its contract: unseen where no filter looks, else what the calls ensure. The loop's invariant: the first x of the events that the filters
--- queue are pushed. The measure is what is left of them.
+-- `passing::serve` meets its contract: by the lane, what its function leaves is what the filters make of the event.
 use borrow.Author.Needs.{needs}
-use borrow.Author.Tests.{not-true}
 use denote.Ref.{now}
-use Prim.Native.Nat.{_-_, _≤_}
+use Prim.Native.Nat.{ℕ, _≤_}
 use mathlib.Core.Path.{_≡_, refl}
 use native.Mathlib.Omega.{arith}
 use Rattle.rules.specs.declared.Hub.{Hub}
 use Rattle.rules.specs.declared.Dispatched.{Dispatched}
 use Rattle.columns.specs.Columns.{elementsOf, buttonsOf, axesOf}
-use Rattle.queueing.specs.Queued.{Pushed, pushed-none}
+use Rattle.filters.specs.Lanes.{lane-few}
 use Rattle.taking.specs.Taking.{givesOf}
 use Rattle.passing.specs.Passing.{seenHub}
-use Rattle.passing.specs.Waits.{waitsBehind, pushed-more}
-use Rattle.passing.specs.Served.{serves-unseen, serves-seen}
+use Rattle.passing.specs.Served.{serves-none, serves-value, serves-hat, serves-stick}
 use Rattle.passing.proofs.serve.Statement.{statement}
 use Rattle.passing.proofs.serve.Tie as tie
 
-abbrev Inv-loop : tie.InvT-loop
-Inv-loop codes kinds names renames renamed converts newconverts hasbutton hasaxis values₀ times₀ marks queuebytes₀ queuecodes₀ flags on t more e
-    place code v f count all₀ x₀ values times queuebytes queuecodes all x =
-    (x ≤ count) × Pushed values₀ times₀ queuebytes₀ queuecodes₀ (t .head) more (waitsBehind v e f x) values times queuebytes queuecodes all
+-- ---- the landmarks
 
-abbrev μ-loop : tie.MeasureT-loop
-μ-loop codes kinds names renames renamed converts newconverts hasbutton hasaxis values₀ times₀ marks queuebytes₀ queuecodes₀ flags on t more e
-    place code v f count all₀ x₀ values times queuebytes queuecodes all x =
-    count - x
+abbrev pushed : tie.After-lane-of → tie.After-push-next
+pushed c = c .before .before
 
--- a place of the code, or a need, with this invariant and this measure
-abbrev At : ((i : tie.InvT-loop) → (m : tie.MeasureT-loop) → Type 0) → Type 0
-At place = place Inv-loop μ-loop
-
--- ---- the landmarks, each told from the one behind it
-
-abbrev start : At tie.After-push-next → At tie.Start
-start c = c .before .before .before .before .before
-
-abbrev pushed : At tie.After-code-of → At tie.After-push-next
-pushed c = c .before .before .before .before
-
-abbrev coded : At tie.After-name-of → At tie.After-code-of
-coded c = c .before .before
-
-abbrev named : At tie.After-event-places → At tie.After-name-of
-named c = c .before
-
-abbrev sighted : At tie.After-view-in → At tie.After-event-places
-sighted c = c .before .before .before
-
-abbrev sent : At tie.After-mark-flag → At tie.After-filter
-sent c = c .before .before .before
-
-abbrev marked : At tie.At-loop → At tie.After-mark-flag2
-marked c = c .before .before
+abbrev start : tie.After-lane-of → tie.Start
+start c = pushed c .before .before .before .before .before
 
 -- what the filters can see of what is lent
-abbrev seen : At tie.Start → Hub
+abbrev seen : tie.Start → Hub
 seen c =
     let a = c .args in
     seenHub (now (a .codes)) (now (a .kinds)) (now (a .names)) (now (a .renames)) (now (a .renamed)) (now (a .converts)) (now (a .newconverts))
@@ -63,114 +31,61 @@ seen c =
     (axesOf (now (a .values)) (now (a .times))) (now (a .flags))
 
 -- what was taken
-abbrev taken : At tie.Start → Dispatched
+abbrev taken : tie.Start → Dispatched
 taken c = givesOf (c .args .t)
 
--- ---- an event at which no filter looks
-
-push-next-requires : At tie.Need-push-next-requires
+push-next-requires : tie.Need-push-next-requires
 push-next-requires c κs = search needs
 
-concerns-requires : At tie.Need-concerns-requires
-concerns-requires c κs = search needs
+lane-of-requires : tie.Need-lane-of-requires
+lane-of-requires c κs = search needs
 
-returns : At tie.Need-returns
+returns : tie.Need-returns
 returns c =
-    let looks = c .before .concerns in
-    let first = c .before .before .before in
-    let s = start first in
-    serves-unseen (s .args .on) (seen s) (taken s) (s .pre .is) (looks .ensures) (not-true (looks .result) (c .if1 .taken)) (first .push-next .ensures)
+    let l = c .before in
+    serves-none (start l .args .on) (seen (start l)) (taken (start l)) (now (start l .args .marks)) refl refl refl (pushed l .push-next .ensures)
+    (start l .pre .is) (l .lane-of .ensures) (c .if1 .taken)
 
--- ---- an event that passes the filters
+value-sent-requires : tie.Need-value-sent-requires
+value-sent-requires c κs = start (c .before .before .before .before) .pre .small
 
-code-of-requires : At tie.Need-code-of-requires
-code-of-requires c κs = search needs
-
-name-of-requires : At tie.Need-name-of-requires
-name-of-requires c κs = search needs
-
-event-places-requires : At tie.Need-event-places-requires
-event-places-requires c κs = rw (coded c .code-of .ensures) (start (pushed (coded c)) .pre)
-
-view-in-requires : At tie.Need-view-in-requires
-view-in-requires c κs = search needs
-
-filter-requires : At tie.Need-filter-requires
-filter-requires c κs = search needs
-
-mark-flag-requires : At tie.Need-mark-flag-requires
-mark-flag-requires c κs = search needs
-
-mark-flag-requires-2 : At tie.Need-mark-flag-requires-2
-mark-flag-requires-2 c κs = search needs
-
-wide-requires : At tie.Need-wide-requires
-wide-requires c κs = search needs
-
-loop-holds : At tie.Need-loop-holds
-unfolding waitsBehind
-loop-holds c = (omega arith, pushed-none)
-
-add-x : At tie.Need-add-x
-add-x c = omega arith
-
-queued-behind-requires : At tie.Need-queued-behind-requires
-queued-behind-requires c κs = search needs
-
-push-requires : At tie.Need-push-requires
-push-requires c κs = search needs
-
-loop-less : At tie.Need-loop-less
-loop-less c = omega arith
-
--- one more is pushed
-loop-again : At tie.Need-loop-again
-loop-again c =
-    let told = c .before .before .before .before .before in
-    let loop = told .before .before in
-    let f = sent (marked loop .before .before) in
-    let v = f .before in
-    let a = start (pushed (coded (named (sighted v)))) .args in (
-      omega arith,
-      pushed-more (v .view-in .result) (a .t .event) (f .filter .result) (loop .loop .x) (loop .loop .inv .1) (told .queued-behind .ensures) (c .push .ensures),
-    )
-
-returns-2 : At tie.Need-returns-2
+returns-2 : tie.Need-returns-2
 returns-2 c =
-    let loop = c .before .before in
-    let both = marked loop in
-    let own = both .before .before in
-    let f = sent own in
-    let v = f .before in
-    let n = named (sighted v) in
-    let first = pushed (coded n) in
-    let s = start first in
-    let all : loop .loop .x ≡ f .filter .result .count = omega (arith, loop .before .wide .ensures .0, loop .loop .inv .0) in
-    serves-seen (s .args .on) (seen s) (taken s) (now (s .args .marks)) refl refl refl (first .push-next .ensures) (n .name-of .ensures)
-    (coded n .code-of .ensures) (sighted v .event-places .ensures) (v .view-in .ensures) (f .filter .ensures) (own .mark-flag .ensures)
-    (both .mark-flag2 .ensures) (rw all at (loop .loop .inv .1))
+    let l = c .before .before .before .before .before in
+    serves-value (start l .args .on) (seen (start l)) (taken (start l)) (now (start l .args .marks)) refl refl refl (pushed l .push-next .ensures)
+    (start l .pre .is) (l .lane-of .ensures) (c .before .before .before .if2 .taken) (c .value-sent .ensures)
+
+turn-hat-requires : tie.Need-turn-hat-requires
+turn-hat-requires c κs = search needs
+
+returns-3 : tie.Need-returns-3
+returns-3 c =
+    let l = c .before .before .before .before .before .before .before .before in
+    serves-hat (start l .args .on) (seen (start l)) (taken (start l)) (now (start l .args .marks)) refl refl refl (pushed l .push-next .ensures)
+    (start l .pre .is) (l .lane-of .ensures) (c .before .before .before .before .before .if3 .taken) (c .turn-hat .ensures)
+
+pass-stick-requires : tie.Need-pass-stick-requires
+pass-stick-requires c κs = start (c .before .before .before .before .before .before .before .before) .pre .small
+
+returns-4 : tie.Need-returns-4
+returns-4 c =
+    let none = c .before .before .before .before .before .before in
+    let l = none .before .before .before in
+    let few : l .lane-of .result ≤ 3 = rw (l .lane-of .ensures) (lane-few _ _ _ _) in
+    let last : l .lane-of .result ≡ 3 = omega (arith, few, none .if3 .left, none .before .if2 .left, none .before .before .if1 .left) in
+    serves-stick (start l .args .on) (seen (start l)) (taken (start l)) (now (start l .args .marks)) refl refl refl (pushed l .push-next .ensures)
+    (start l .pre .is) (l .lane-of .ensures) last (c .pass-stick .ensures)
 
 pub serve-spec : {M : Type 1} → statement M
 serve-spec =
     tie.close
     (tie.spec
-    Inv-loop
-    μ-loop
     push-next-requires
-    concerns-requires
+    lane-of-requires
     returns
-    code-of-requires
-    name-of-requires
-    event-places-requires
-    view-in-requires
-    filter-requires
-    mark-flag-requires
-    mark-flag-requires-2
-    wide-requires
-    loop-holds
-    add-x
-    queued-behind-requires
-    push-requires
-    loop-less
-    loop-again
-    returns-2)
+    value-sent-requires
+    returns-2
+    turn-hat-requires
+    returns-3
+    pass-stick-requires
+    returns-4)
