@@ -87,6 +87,8 @@ pub fn pump<'s>(
     let newconverts = settings.newconverts;
     let mut at = place;
     let mut events: usize = 0;
+    // the bytes of the events written, counted on: they are not worked out anew for each
+    let mut filled: usize = 0;
     let mut steps: usize = 0;
     let mut left = allowance as usize;
     // the place that was looked up last
@@ -95,12 +97,7 @@ pub fn pump<'s>(
     let mut last = pad::place_of(codes, lastpad, lastcode);
     loop {
         let kept = loop {
-            let why = turn::stop(
-                waiting,
-                batch.len() - at,
-                out.len() - EVENT_SIZE * events,
-                left,
-            );
+            let why = turn::stop(waiting, batch.len() - at, out.len() - filled, left);
             if 0 < why {
                 return PumpedHead {
                     head: stepped(settings, connected, renamed, flags, front, waiting),
@@ -197,7 +194,8 @@ pub fn pump<'s>(
             lastcode,
             last,
         );
-        wire::write_event(&mut out[EVENT_SIZE * events..], kept);
+        wire::write_event(&mut out[filled..], kept);
         events = events + 1;
+        filled = filled + EVENT_SIZE;
     }
 }

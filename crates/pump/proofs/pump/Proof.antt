@@ -5,6 +5,7 @@ mod Loops
 mod Landmarks
 mod Turns
 mod Plain
+mod Writes
 use Prim.Native.Nat.{_+_, _≤_, _<_}
 use mathlib.Core.Path.{refl, sym, _∙_}
 use lib.ListN.{length, length-drop, length-take}
@@ -13,7 +14,6 @@ use native.Mathlib.Omega.{arith}
 use Rattle.rules.specs.declared.PumpAnswer.the-variants.{Refused}
 use Rattle.pump_laws.specs.Runs.{accepted, run-stops, run-refuses, pump-refuses}
 use Rattle.pump_laws.specs.Turns.{step-skips, step-keeps}
-use Rattle.pump_laws.specs.Parts.{put-is, put-length}
 use Rattle.cells.specs.Settled.{settled-hub}
 use Rattle.pump.proofs.pump.Statement.{statement}
 use Rattle.pump.proofs.pump.Tie as tie
@@ -21,6 +21,7 @@ use Rattle.pump.proofs.pump.Proof.Loops.{Inv-loop2, μ-loop2, Inv-loop,
 use Rattle.pump.proofs.pump.Proof.Landmarks as mark
 use Rattle.pump.proofs.pump.Proof.Turns.{turns, head-served, hub-served, queuebytes-by, queuecodes-by}
 use Rattle.pump.proofs.pump.Proof.Plain as plain
+use Rattle.pump.proofs.pump.Proof.Writes.{written, as-long}
 
 returns : At tie.Need-returns
 returns c =
@@ -44,6 +45,7 @@ loop-holds c =
       },
       refl,
       c .place-of .ensures,
+      refl,
     )
 
 loop2-holds : At tie.Need-loop2-holds
@@ -69,7 +71,7 @@ returns-2 c =
     let l = i .loop2 in
     let o = mark.outer i .loop in
     mark.headed (c .stop-answer .result) (mark.listed-in (mark.start (mark.outer i))) (mark.columns-in i) (o .out) (c .before .stepped .ensures)
-    ∙ run-stops (mark.hub-in i) (mark.batch-in (mark.outer i)) (l .at) (o .out) (o .events) (l .steps) (l .left) (t .before .stop .ensures) (t .if2 .taken)
+    ∙ run-stops (mark.hub-in i) (mark.batch-in (mark.outer i)) (l .at) (o .out) (o .events) (l .steps) (l .left) (mark.stops (t .before)) (t .if2 .taken)
     (c .stop-answer .ensures)
     ∙ mark.whole-run i
 
@@ -89,7 +91,7 @@ returns-3 c =
     let o = mark.outer i .loop in
     mark.headed (Refused (t .take .result .number) (l .at) (o .events) (l .steps)) (mark.listed-in (mark.start (mark.outer i))) (mark.columns-in i) (o .out)
     (c .stepped2 .ensures)
-    ∙ run-refuses (mark.hub-in i) (mark.batch-in (mark.outer i)) (l .at) (o .out) (o .events) (l .steps) (l .left) (g .before .stop .ensures) (g .if2 .left)
+    ∙ run-refuses (mark.hub-in i) (mark.batch-in (mark.outer i)) (l .at) (o .out) (o .events) (l .steps) (l .left) (mark.stops (g .before)) (g .if2 .left)
     (mark.taken-is t .number) (c .before .if3 .taken)
     ∙ mark.whole-run i
 
@@ -137,9 +139,6 @@ settle-requires c κs = mark.placed (mark.coded (mark.served (c .before .before 
 
 -- ---- a kept event is written: there is room
 
-mul-write-event : At tie.Need-mul-write-event
-mul-write-event c = let r = mark.room-of c in omega arith
-
 sub-write-event : At tie.Need-sub-write-event
 sub-write-event c = let r = mark.room-of c in omega arith
 
@@ -154,6 +153,9 @@ write-event-requires c κs = simp (length-drop, length-take) (omega (arith, mark
 
 add-events : At tie.Need-add-events
 add-events c = let r = mark.room-of (c .before .before .before .before) in omega arith
+
+add-filled : At tie.Need-add-filled
+add-filled c = let r = mark.room-of (c .before .before .before .before) in omega arith
 
 loop-less : At tie.Need-loop-less
 loop-less c =
@@ -176,7 +178,7 @@ loop-again c =
     let u = hub-served p in
     let z = p .serve .result .event in
     let wrote = c .before .before .write-event .ensures in
-    let long = put-length (o .loop .out) (o .loop .events) (r .room) z wrote in (
+    let long = as-long (o .loop .out) (o .loop .events) (r .filled) (r .room) z wrote in (
       record {
         at-small = mark.given y .within (i .at-small);
         batch-small = i .batch-small;
@@ -189,11 +191,12 @@ loop-again c =
             (step-keeps (mark.hub-in n) (mark.batch-in o) (l .at) (o .loop .out) (o .loop .events) (l .steps) refl (turns p) (mark.given y .place)
             (sym (k .before .kept .ensures) ∙ k .if4 .taken)
             (settled-hub (head-served p) (mark.listed-in (mark.start o)) (queuebytes-by p) (queuecodes-by p) (u .updates) z (w .settle .ensures))
-            (put-is (o .loop .out) (o .loop .events) (r .room) z wrote)))
+            (written (o .loop .out) (o .loop .events) (r .filled) (r .room) z wrote)))
             ∙ i .same ∙ o .loop .inv .0 .same;
       },
       long ∙ o .loop .inv .1,
       mark.placed (mark.coded p),
+      omega (arith, r .filled),
     )
 
 pub pump-spec : {M : Type 1} → statement M
@@ -210,7 +213,6 @@ pump-spec =
     loop-holds
     loop2-holds
     plain.sub-stop
-    plain.mul-stop
     plain.sub-stop-2
     plain.stop-requires
     plain.stepped-requires
@@ -230,11 +232,11 @@ pump-spec =
     loop2-less
     loop2-again
     settle-requires
-    mul-write-event
     sub-write-event
     part-write-event-start
     part-write-event-end
     write-event-requires
     add-events
+    add-filled
     loop-less
     loop-again)

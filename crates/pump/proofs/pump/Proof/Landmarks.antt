@@ -11,7 +11,7 @@ use Rattle.rules.specs.declared.Hub.{Hub}
 use Rattle.rules.specs.declared.PumpAnswer.{PumpAnswer}
 use Rattle.rules.specs.Names.{bufferLimit}
 use Rattle.rules.specs.Forms.{eventSize}
-use Rattle.rules.specs.Pump.{Progress, Run, stepped, pumpOf}
+use Rattle.rules.specs.Pump.{Progress, Run, stepped, stopOf, pumpOf}
 use Rattle.pad.specs.Found.{Placed}
 use Rattle.pump_laws.specs.Runs.{rest, standing, roomy, run-goes, pump-runs}
 use Rattle.hub.specs.declared.Head.{Head}
@@ -123,11 +123,24 @@ standing-in c = let l = c .loop2 in let o = outer c .loop in standing (hub-in c)
 
 -- ---- what holds there
 
+-- the stop, by the room behind the events written
+pub stops :
+    (c : At tie.After-stop) →
+    let l = c .before .loop2 in
+    let o = outer (c .before) .loop in
+    c .stop .result ≡ stopOf (l .waiting) (length (batch-in (outer (c .before))) - l .at) (length (o .out) - eventSize * o .events) (l .left)
+stops c =
+    let l = c .before .loop2 in
+    let o = outer (c .before) .loop in
+    c .stop .ensures
+    ∙ ap (λ (n : ℕ). stopOf (l .waiting) (length (batch-in (outer (c .before))) - l .at) (length (o .out) - n) (l .left)) (o .inv .3)
+
 -- where no stop is answered there is room for an event, and a step is left
 pub record Room (c : At tie.Else2) : Type 0 where
   pub room : eventSize * outer (inner c) .loop .events + eventSize ≤ length (outer (inner c) .loop .out)
   pub small : length (outer (inner c) .loop .out) ≤ bufferLimit
   pub step-left : 0 < inner c .loop2 .left
+  pub filled : outer (inner c) .loop .filled ≡ eventSize * outer (inner c) .loop .events
 
 pub room-in : (c : At tie.Else2) → Room c
 room-in c =
@@ -135,9 +148,9 @@ room-in c =
     let o = outer (inner c) .loop in
     let batch-left = length (batch-in (outer (inner c))) - l .at in
     let out-left = length (o .out) - eventSize * o .events in
-    let g = roomy (l .waiting) batch-left out-left (l .left) (c .before .stop .ensures) (c .if2 .left) in
+    let g = roomy (l .waiting) batch-left out-left (l .left) (stops (c .before)) (c .if2 .left) in
     let i = l .inv .0 in
-    record { room = omega arith; small = i .out-small; step-left = g .step-left }
+    record { room = omega arith; small = i .out-small; step-left = g .step-left; filled = o .inv .3 }
 
 -- the run that is left where the inner loop stands, and the whole call
 abbrev pub run-in : At tie.At-loop2 → Run
@@ -179,7 +192,7 @@ goes-on c e =
     let i = inner g in
     let l = i .loop2 in
     let o = outer i .loop in
-    run-goes (hub-in i) (batch-in (outer i)) (l .at) (o .out) (o .events) (l .steps) (l .left) (g .before .stop .ensures) (g .if2 .left)
+    run-goes (hub-in i) (batch-in (outer i)) (l .at) (o .out) (o .events) (l .steps) (l .left) (stops (g .before)) (g .if2 .left)
     (taken-is (taken c) .number) (c .if3 .left) e
 
 same-placed : {codes : List ℕ} {p c m k : ℕ} → m ≡ c → Placed codes p c k → Placed codes p m k

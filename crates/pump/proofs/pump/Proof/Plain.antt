@@ -13,11 +13,8 @@ place-of-requires c κs = search needs
 pub sub-stop : At tie.Need-sub-stop
 sub-stop c = omega arith
 
-pub mul-stop : At tie.Need-mul-stop
-mul-stop c = omega arith
-
 pub sub-stop-2 : At tie.Need-sub-stop-2
-sub-stop-2 c = omega arith
+sub-stop-2 c = let i = c .before .loop .inv in omega (arith, i .3, i .1, c .loop2 .inv .0)
 
 pub stop-requires : At tie.Need-stop-requires
 stop-requires c κs = search needs
