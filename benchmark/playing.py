@@ -1,17 +1,18 @@
-"""Plays courses on the hub's program and on the crate's, and reads what they say.
+"""Plays courses on the benchmark's program, which has gilrs and the hub in it, and reads what it says.
 
-The folder, the program's first word, holds crate_pace and the courses that it made; the hub is run by scripts/run."""
+The folder, the program's first word, holds the program `pace` and the courses that it made."""
 import os
-import resource
+import platform
+import shlex
 import subprocess
 import sys
 
 ROOT = os.path.dirname(os.path.dirname(os.path.abspath(__file__)))
-RUN = os.path.join(ROOT, 'scripts', 'run')
-ORACLE = os.path.join(ROOT, 'oracle', 'build', 'oracle')
-PROGRAM = os.path.join(ROOT, 'target', 'bin', 'pace')
 FOLDER = os.path.abspath(sys.argv[1])
-CRATE = os.path.join(FOLDER, 'crate_pace')
+PROGRAM = os.path.join(FOLDER, 'pace')
+ORACLE = os.path.join(FOLDER, 'oracle', 'oracle')
+RUN = shlex.split(os.environ.get('X86_RUN', ''))  # what an x86-64 program is run under here
+NATIVE = platform.machine() == 'x86_64'
 
 COUNTS = ('CALLS', 'DRAINED', 'REFUSALS', 'RECORDS', 'EVENTS', 'STEPS', 'HELD')
 HEAD = 8  # a course's rounds and its opening's size
@@ -40,21 +41,14 @@ def shortened(given, every):
     yield given
 
 
-def run(words, given, under=()):
-    """What the program wrote, what it said, and the processor time it took."""
-    before = resource.getrusage(resource.RUSAGE_CHILDREN)
-    done = subprocess.run(words, input=given, capture_output=True, env=dict(os.environ, UNDER=' '.join(under)), check=True)
-    after = resource.getrusage(resource.RUSAGE_CHILDREN)
-    spent = after.ru_utime + after.ru_stime - before.ru_utime - before.ru_stime
-    return done.stdout.decode(), done.stderr.decode(), spent
+def run(words, given):
+    """What a program wrote, and what it said."""
+    done = subprocess.run(words, input=given, capture_output=True, check=True)
+    return done.stdout.decode(), done.stderr.decode()
 
 
-def hub(given, under=()):
-    return run([RUN, 'pace'], given, under)
-
-
-def gilrs(given, under=()):
-    return run([*under, CRATE, 'pace'], given)
+def played(side, given):
+    return run([*RUN, PROGRAM, side], given)
 
 
 def oracle(given):
@@ -62,7 +56,7 @@ def oracle(given):
     scenario = os.path.join(FOLDER, 'scenario')
     with open(scenario, 'wb') as file:
         file.write(given[HEAD:])
-    return run([ORACLE, 'play', scenario], b'')[0].splitlines()
+    return run([*RUN, ORACLE, 'play', scenario], b'')[0].splitlines()
 
 
 def read(text):

@@ -1,28 +1,33 @@
 #!/usr/bin/env bash
-# The benchmark: builds the hub's program, proved, and the crate's, makes the courses and measures both in one run: benchmark/run.sh [SEED].
+# The benchmark: builds the library, proved, and one program with gilrs, unchanged, and the hub's Rust crate in it, makes the courses, and holds and measures
+# both in one run: benchmark/run.sh [SEED].
 set -euo pipefail
 benchmark=$(cd "$(dirname "${BASH_SOURCE[0]}")" && pwd)
-root=$benchmark/..
-build=$root/oracle/build
+root=$(dirname "$benchmark")
 folder=$root/target/benchmark
 seed=${1:-1}
+. "$root/scripts/x86.sh"
+[ -z "$x86_missing" ] || { echo "benchmark: not here, for want of $x86_missing (scripts/x86-install brings it to a Debian machine)" >&2; exit 3; }
+read -ra rustc <<<"$x86_rustc"
+export X86_RUN=$x86_run
 
 mkdir -p "$folder"
-(cd "$root" && rt check pace) >"$folder/pace.log" 2>&1 || { cat "$folder/pace.log" >&2; exit 1; }
-"$root/oracle/build.sh"
-rustc --edition 2021 -O --crate-name crate_pace -o "$folder/crate_pace" \
-  -L "dependency=$build/common" -L "dependency=$build/plain" \
-  --extern "reading=$build/common/libreading.rlib" \
-  --extern "gilrs=$build/plain/libgilrs.rlib" \
-  --extern "gilrs_core=$build/plain/libgilrs_core.rlib" "$benchmark/crate/main.rs"
+(cd "$root" && rt staticlib copperyarn) >"$folder/library.log" 2>&1 || { cat "$folder/library.log" >&2; exit 1; }
+ORACLE_BUILD=$folder/oracle ORACLE_RUSTC=$x86_rustc "$root/oracle/build.sh"
+"${rustc[@]}" --edition 2021 -O --crate-type rlib --crate-name copperyarn --out-dir "$folder" \
+  -L "native=$root/target/staticlib" -l static=copperyarn "$root/rust/src/lib.rs"
+"${rustc[@]}" --edition 2021 -O --crate-name pace -o "$folder/pace" -L "native=$root/target/staticlib" \
+  -L "dependency=$folder/oracle/common" -L "dependency=$folder/oracle/plain" \
+  --extern "copperyarn=$folder/libcopperyarn.rlib" \
+  --extern "reading=$folder/oracle/common/libreading.rlib" \
+  --extern "gilrs=$folder/oracle/plain/libgilrs.rlib" \
+  --extern "gilrs_core=$folder/oracle/plain/libgilrs_core.rlib" "$benchmark/program/main.rs"
 
-"$folder/crate_pace" stream "$seed" >"$folder/stream"
-"$folder/crate_pace" singly "$seed" >"$folder/singly"
-for calls in 0 1000; do "$folder/crate_pace" bare "$calls" >"$folder/bare-$calls"; done
-"$folder/crate_pace" asking 1000 >"$folder/asking-1000"
-"$folder/crate_pace" cut 1000 >"$folder/cut-1000"
-for steps in 0 12 24 36 48; do "$folder/crate_pace" taking "$steps" >"$folder/taking-$steps"; done
-for steps in 0 4 8 12 16; do "$folder/crate_pace" pushing "$steps" >"$folder/pushing-$steps"; done
-# the stored test of pace: three rounds that take 12 of the 48 waiting events
-cmp <(printf '\0\0\0\3'; cat "$folder/taking-12") "$root/crates/pace/stdin"
+make() { $x86_run "$folder/pace" "$1" "$2" >"$folder/$3"; }
+make stream "$seed" stream
+make singly "$seed" singly
+for calls in 0 1000; do make bare "$calls" "bare-$calls"; done
+make asking 1000 asking-1000
+for steps in 0 12 24 36 48; do make taking "$steps" "taking-$steps"; done
+for steps in 0 4 8 12 16; do make pushing "$steps" "pushing-$steps"; done
 python3 "$benchmark/measure.py" "$folder"

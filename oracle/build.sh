@@ -1,14 +1,16 @@
 #!/usr/bin/env bash
 # Builds the oracle into oracle/build/: gilrs's seven supplied files, copied and compared, over the stand-ins, once with
-# the Y axis reversed and once not, and the player over both. rustc alone. GILRS_SOURCE names another place of the source.
+# the Y axis reversed and once not, and the player over both. rustc alone. GILRS_SOURCE names another place of the source,
+# ORACLE_BUILD another folder to build into, ORACLE_RUSTC another rustc, with its words.
 set -euo pipefail
 oracle=$(cd "$(dirname "${BASH_SOURCE[0]}")" && pwd)
 source=${GILRS_SOURCE:-$oracle/../../shared/docs/src}/src
-build=$oracle/build
+build=${ORACLE_BUILD:-$oracle/build}
+read -ra rustc <<<"${ORACLE_RUSTC:-rustc}"
 supplied=(constants.rs gamepad.rs utils.rs ev/filter.rs ev/mod.rs ev/state.rs mapping/mod.rs)
 
 say() { printf 'oracle: %s\n' "$*" >&2; }
-command -v rustc >/dev/null || { say 'no rustc here'; exit 3; }
+command -v "${rustc[0]}" >/dev/null || { say 'no rustc here'; exit 3; }
 for file in "${supplied[@]}"; do
   [ -f "$source/$file" ] || { say "no $source/$file; GILRS_SOURCE names the folder that holds src/"; exit 3; }
 done
@@ -29,7 +31,7 @@ fresh() {
 compile() { # NAME FILE FOLDER [more]: one library, found by the later ones in the folder
   local name=$1 file=$2 folder=$3
   shift 3
-  rustc --edition 2021 -O --crate-type rlib --crate-name "$name" --out-dir "$folder" \
+  "${rustc[@]}" --edition 2021 -O --crate-type rlib --crate-name "$name" --out-dir "$folder" \
     -L "dependency=$build/common" -L "dependency=$folder" "$@" "$file"
 }
 
@@ -65,7 +67,7 @@ for crate in log fnv uuid vec_map; do compile "$crate" "$oracle/stand-ins/$crate
 compile reading "$oracle/reading/lib.rs" "$build/common"
 gilrs "$build/plain"
 gilrs "$build/reversed" --cfg y_axis_reversed
-rustc --edition 2021 -O --crate-name oracle -o "$build/oracle" \
+"${rustc[@]}" --edition 2021 -O --crate-name oracle -o "$build/oracle" \
   -L "dependency=$build/common" -L "dependency=$build/plain" -L "dependency=$build/reversed" \
   --extern "reading=$build/common/libreading.rlib" \
   --extern "desk_plain=$build/plain/libdesk_plain.rlib" \

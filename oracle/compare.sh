@@ -1,7 +1,8 @@
 #!/usr/bin/env bash
 # Plays scenarios on the hub and compares with gilrs's answers: oracle/compare.sh [COUNT [SEED]]. First the stored sample, which needs no oracle; then
 # COUNT random scenarios on both, valid and damaged. They are made in parts, each by a seed of its own, counted up from SEED (the clock's seconds, if none
-# is given); on a difference the part's seed is printed. It needs the linked program of replay (`rt check replay`).
+# is given); on a difference the part's seed is printed. What plays is the linked program of replay (`rt check replay`), or the command that PLAYER names,
+# which reads scenarios from standard input.
 set -euo pipefail
 oracle=$(cd "$(dirname "${BASH_SOURCE[0]}")" && pwd)
 count=${1:-0}
@@ -10,9 +11,13 @@ part=5000
 folder=$(mktemp -d)
 trap 'rm -rf "$folder"' EXIT
 
+play() {
+  if [ -n "${PLAYER:-}" ]; then "$PLAYER"; else "$oracle/../scripts/run" replay; fi
+}
+
 # the hub's answers to a scenario file against gilrs's; a name for what was played
 compare() {
-  "$oracle/../scripts/run" replay <"$1" >"$folder/hub.txt"
+  play <"$1" >"$folder/hub.txt"
   cmp -s "$2" "$folder/hub.txt" && return
   diff "$2" "$folder/hub.txt" | head -n 20 || true
   echo "a difference on $3: gilrs is '<', the hub '>'"

@@ -4,6 +4,9 @@ use Prim.Native.Nat.{ℕ}
 abbrev pub A : ℕ
 A = 65
 
+abbrev pub B : ℕ
+B = 66
+
 abbrev pub C : ℕ
 C = 67
 
@@ -12,6 +15,9 @@ D = 68
 
 abbrev pub E : ℕ
 E = 69
+
+abbrev pub F : ℕ
+F = 70
 
 abbrev pub G : ℕ
 G = 71
@@ -22,8 +28,14 @@ H = 72
 abbrev pub I : ℕ
 I = 73
 
+abbrev pub K : ℕ
+K = 75
+
 abbrev pub L : ℕ
 L = 76
+
+abbrev pub M : ℕ
+M = 77
 
 abbrev pub N : ℕ
 N = 78
@@ -42,6 +54,16 @@ S = 83
 
 abbrev pub T : ℕ
 T = 84
+
+abbrev pub U : ℕ
+U = 85
+
+-- V is a word of antt's own
+abbrev pub Vee : ℕ
+Vee = 86
+
+abbrev pub W : ℕ
+W = 87
 
 abbrev pub X : ℕ
 X = 88

@@ -1,5 +1,15 @@
-// The operations of the oracle's scenario form (`oracle/README.md`) that set a desk up, played on a hub that is lent: new, register and rename. The head goes in and
-// comes back by value, the arrays are changed in place.
+// The operations of the oracle's scenario form (`oracle/README.md`) that set a desk up, played on a hub that is lent: new, register and rename. The head goes
+// in and comes back by value, the arrays are changed in place. Proved: answer and hub are what the operation's row of the table says (specs/SetUp.antt), at
+// the hub that head and arrays stand for, for every opcode and payload. By the calls' own contracts: a function here only picks the call and reads its numbers
+// off the payload.
+ghost use mathlib.Core.Path.{_≡_};
+ghost use mathlib.Core.Bool.{Bool};
+ghost use mathlib.Core.List.{List};
+ghost use Prim.Native.Nat.{ℕ};
+ghost use lib.Ieee.{Float};
+ghost use Rattle.hub.specs.Lent.{listed, columns, hubOf};
+ghost use Rattle.replay_answers.specs.Told.{told};
+ghost use Rattle.replay_desk.specs.SetUp.{begunOf, registeredOf, renamedOf, setsUp, setUpOf};
 use columns::Marks;
 use columns::QueueBytes;
 use columns::QueueCodes;
@@ -44,7 +54,14 @@ fn begin(
     queuebytes: &mut QueueBytes,
     queuecodes: &mut QueueCodes,
     payload: &[u8],
-) -> Told {
+) -> Told
+    ensures { λ r. ⌜ told r (listed (now (codes .exit)) (now (kinds .exit)) (now (names .exit)) (now (renames .exit)))
+        (columns (now (hasbutton .exit)) (now (hasaxis .exit)) (now (values .exit)) (now (times .exit)) (now (marks .exit))
+        (now (queuebytes .exit)) (now (queuecodes .exit)))
+        ≡ begunOf (hubOf head (listed (now (codes .entry)) (now (kinds .entry)) (now (names .entry)) (now (renames .entry)))
+        (columns (now (hasbutton .entry)) (now (hasaxis .entry)) (now (values .entry)) (now (times .entry)) (now (marks .entry))
+        (now (queuebytes .entry)) (now (queuecodes .entry)))) (now (payload .entry)) ⌝ }
+{
     if payload.len() != NEW_SIZE {
         return replay_answers::tell(head, Changed::Nothing);
     }
@@ -82,7 +99,14 @@ fn register(
     values: &mut Values,
     marks: &mut Marks,
     sheet: &[u8],
-) -> Told {
+) -> Told
+    ensures { λ r. ⌜ ((renames times queuebytes queuecodes : List ℕ) →
+        told r (listed (now (codes .exit)) (now (kinds .exit)) (now (names .exit)) renames)
+        (columns (now (hasbutton .exit)) (now (hasaxis .exit)) (now (values .exit)) times (now (marks .exit)) queuebytes queuecodes)
+        ≡ registeredOf (hubOf head (listed (now (codes .entry)) (now (kinds .entry)) (now (names .entry)) renames)
+        (columns (now (hasbutton .entry)) (now (hasaxis .entry)) (now (values .entry)) times (now (marks .entry)) queuebytes queuecodes))
+        (now (sheet .entry))) ⌝ }
+{
     let r = desk::register(
         head,
         codes,
@@ -106,7 +130,13 @@ fn rename<'s>(
     kinds: &'s [u8; 208],
     renames: &mut [u8; 208],
     payload: &[u8],
-) -> Told {
+) -> Told
+    ensures { λ r. ⌜ ((names times queuebytes queuecodes : List ℕ) (hasbutton hasaxis marks : List Bool) (values : List Float) →
+        told r (listed (now (codes .entry)) (now (kinds .entry)) names (now (renames .exit)))
+        (columns hasbutton hasaxis values times marks queuebytes queuecodes)
+        ≡ renamedOf (hubOf head (listed (now (codes .entry)) (now (kinds .entry)) names (now (renames .entry)))
+        (columns hasbutton hasaxis values times marks queuebytes queuecodes)) (now (payload .entry))) ⌝ }
+{
     if payload.len() < 1 {
         return replay_answers::tell(head, Changed::Nothing);
     }
@@ -119,8 +149,16 @@ fn rename<'s>(
 // ---- any operation that sets a desk up
 
 // Whether an opcode is new, register or rename.
-pub fn sets_up(opcode: u8) -> bool {
-    opcode == NEW || opcode == REGISTER || opcode == RENAME
+pub fn sets_up(opcode: u8) -> bool
+    ensures { λ r. ⌜ r ≡ setsUp opcode ⌝ }
+{
+    if opcode == NEW {
+        return true;
+    }
+    if opcode == REGISTER {
+        return true;
+    }
+    opcode == RENAME
 }
 
 // Plays one of them.
@@ -139,7 +177,14 @@ pub fn set_up(
     queuecodes: &mut QueueCodes,
     opcode: u8,
     payload: &[u8],
-) -> Told {
+) -> Told
+    ensures { λ r. ⌜ told r (listed (now (codes .exit)) (now (kinds .exit)) (now (names .exit)) (now (renames .exit)))
+        (columns (now (hasbutton .exit)) (now (hasaxis .exit)) (now (values .exit)) (now (times .exit)) (now (marks .exit))
+        (now (queuebytes .exit)) (now (queuecodes .exit)))
+        ≡ setUpOf (hubOf head (listed (now (codes .entry)) (now (kinds .entry)) (now (names .entry)) (now (renames .entry)))
+        (columns (now (hasbutton .entry)) (now (hasaxis .entry)) (now (values .entry)) (now (times .entry)) (now (marks .entry))
+        (now (queuebytes .entry)) (now (queuecodes .entry)))) opcode (now (payload .entry)) ⌝ }
+{
     if opcode == NEW {
         return begin(
             head,

@@ -1,5 +1,5 @@
-// The dump of the oracle's scenario form (`oracle/README.md`): everything that the pads' state holds, of a hub that is lent. Where the text has no room it writes
-// nothing there, as `lines` does. Proved: every function is safe and ends for every input. What the lines say is not stated; they are compared with the oracle's.
+// The dump of the oracle's scenario form (`oracle/README.md`): everything that the pads' state holds, of a hub that is lent. Each function appends to a text at
+// a place and answers the next place; it prints the pieces of its definition in `specs/Dump.antt`, each where the text has room for it, whatever the hub holds.
 use columns::Marks;
 use columns::Times;
 use columns::Values;
@@ -9,40 +9,47 @@ use lines::SPACE;
 use rules::AxisData;
 use rules::ButtonData;
 use rules::FLAGS_PER_PAD;
-use rules::NOWHERE;
 use rules::PADS;
 use rules::PLACES_PER_PAD;
-ghost use Prim.Native.Nat.{_≤_};
+ghost use mathlib.Core.Path.{_≡_};
+ghost use mathlib.Core.List.{List};
+ghost use Prim.Native.Nat.{ℕ, _+_, _*_, _<_};
+ghost use Rattle.rules.specs.Names.{padLimit, placesPerPad};
+ghost use Rattle.rules.specs.Hub.{hatsNow};
+ghost use Rattle.columns.specs.Columns.{buttonsOf, axesOf};
+ghost use Rattle.hub.specs.Lent.{Listed, Columns, listed, columns, hubOf};
+ghost use Rattle.replay_words.specs.Pieces.{written, laidAll};
+ghost use Rattle.replay_dump.specs.Dump as law;
+ghost use Rattle.replay_dump.specs.Dump.{dumpPieces};
 
 // The i-th place of a pad.
 fn place(p: u8, i: usize) -> usize
-    ensures { λ r. ⌜ r ≤ 208 ⌝ }
+    requires { ⌜ (p < padLimit) × (i < placesPerPad) ⌝ }
+    ensures { λ r. ⌜ r ≡ placesPerPad * p + i ⌝ }
 {
-    if PADS <= p {
-        return NOWHERE;
-    }
-    if PLACES_PER_PAD <= i {
-        return NOWHERE;
-    }
     PLACES_PER_PAD * p as usize + i
 }
 
-fn button(text: &mut [u8], at: usize, known: bool, code: u32, b: ButtonData) -> usize {
+fn button(text: &mut [u8], at: usize, known: bool, code: u32, b: ButtonData) -> usize
+    ensures { λ r. ⌜ written (now (text .exit)) r ≡ laidAll (law.buttonLine known code b) (written (now (text .entry)) at) ⌝ }
+{
     if !known {
         return at;
     }
     let next = lines::append(text, at, b"B ");
     let words = lines::hex(text, next, code, SPACE);
-    replay_answers::button_words(text, words, b"", b)
+    replay_words::button_words(text, words, b)
 }
 
-fn stick(text: &mut [u8], at: usize, known: bool, code: u32, a: AxisData) -> usize {
+fn stick(text: &mut [u8], at: usize, known: bool, code: u32, a: AxisData) -> usize
+    ensures { λ r. ⌜ written (now (text .exit)) r ≡ laidAll (law.stickLine known code a) (written (now (text .entry)) at) ⌝ }
+{
     if !known {
         return at;
     }
     let next = lines::append(text, at, b"A ");
     let words = lines::hex(text, next, code, SPACE);
-    replay_answers::axis_words(text, words, b"", a)
+    replay_words::axis_words(text, words, a)
 }
 
 // A pad's button records, codes rising.
@@ -55,7 +62,13 @@ fn buttons(
     text: &mut [u8],
     at: usize,
     p: u8,
-) -> usize {
+) -> usize
+    requires { ⌜ p < padLimit ⌝ }
+    ensures { λ r. ⌜ written (now (text .exit)) r
+        ≡ laidAll (law.buttonLines (now (codes .entry)) (now (hasbutton .entry))
+        (buttonsOf (now (values .entry)) (now (times .entry)) (now (marks .entry))) p placesPerPad)
+        (written (now (text .entry)) at) ⌝ }
+{
     let mut next = at;
     let mut i: usize = 0;
     while i < PLACES_PER_PAD {
@@ -82,7 +95,12 @@ fn sticks(
     text: &mut [u8],
     at: usize,
     p: u8,
-) -> usize {
+) -> usize
+    requires { ⌜ p < padLimit ⌝ }
+    ensures { λ r. ⌜ written (now (text .exit)) r
+        ≡ laidAll (law.stickLines (now (codes .entry)) (now (hasaxis .entry)) (axesOf (now (values .entry)) (now (times .entry))) p placesPerPad)
+        (written (now (text .entry)) at) ⌝ }
+{
     let mut next = at;
     let mut i: usize = 0;
     while i < PLACES_PER_PAD {
@@ -100,12 +118,16 @@ fn sticks(
     next
 }
 
-fn digit(b: bool) -> u8 {
+fn digit(b: bool) -> u8
+    ensures { λ r. ⌜ r ≡ law.digit b ⌝ }
+{
     if b { b'1' } else { b'0' }
 }
 
 // The deadzone flags: DPadX, DPadY, LeftStickX, LeftStickY, RightStickX, RightStickY.
-fn flags(flags: &[bool; 24], text: &mut [u8], at: usize, p: u8) -> usize {
+fn flags(flags: &[bool; 24], text: &mut [u8], at: usize, p: u8) -> usize
+    ensures { λ r. ⌜ written (now (text .exit)) r ≡ laidAll (law.flagsLine (now (flags .entry)) p) (written (now (text .entry)) at) ⌝ }
+{
     let start = FLAGS_PER_PAD * p as usize;
     let mut next = lines::append(text, at, b"FLAGS ");
     let mut i: usize = 0;
@@ -117,7 +139,9 @@ fn flags(flags: &[bool; 24], text: &mut [u8], at: usize, p: u8) -> usize {
 }
 
 // The present hats: a rename's until the next Connected.
-fn hats(head: Head, p: u8) -> u8 {
+fn hats(head: Head, p: u8) -> u8
+    ensures { λ r. ⌜ ((s : Listed) (t : Columns) → r ≡ hatsNow (hubOf head s t) p) ⌝ }
+{
     if pad::pad_bool(&head.renamed, p) {
         return pad::pad_number(&head.newhats, p);
     }
@@ -125,10 +149,14 @@ fn hats(head: Head, p: u8) -> u8 {
 }
 
 // A pad's first line: its number, whether it is connected, and its hats.
-fn first_line(head: Head, text: &mut [u8], at: usize, p: u8) -> usize {
+fn first_line(head: Head, text: &mut [u8], at: usize, p: u8) -> usize
+    ensures { λ r. ⌜ ((s : Listed) (t : Columns) →
+        written (now (text .exit)) r ≡ laidAll (law.firstLine (hubOf head s t) p) (written (now (text .entry)) at)) ⌝ }
+{
     let connected = lines::labelled(text, at, b"DUMP ", p as u64, SPACE);
-    let end = lines::append(text, connected, &[digit(pad::pad_bool(&head.connected, p))]);
-    lines::labelled(text, end, b" ", hats(head, p) as u64, NEWLINE)
+    let stands = replay_words::bit(pad::pad_bool(&head.connected, p));
+    let end = lines::number(text, connected, stands, SPACE);
+    lines::number(text, end, hats(head, p) as u64, NEWLINE)
 }
 
 // A pad's lines; none for one that is not registered.
@@ -143,7 +171,13 @@ fn pad_lines(
     text: &mut [u8],
     at: usize,
     p: u8,
-) -> usize {
+) -> usize
+    requires { ⌜ p < padLimit ⌝ }
+    ensures { λ r. ⌜ ((kinds names renames queuebytes queuecodes : List ℕ) →
+        written (now (text .exit)) r ≡ laidAll (law.padLines (hubOf head (listed (now (codes .entry)) kinds names renames)
+        (columns (now (hasbutton .entry)) (now (hasaxis .entry)) (now (values .entry)) (now (times .entry)) (now (marks .entry)) queuebytes queuecodes))
+        p) (written (now (text .entry)) at)) ⌝ }
+{
     if head.pads <= p {
         return at;
     }
@@ -153,7 +187,9 @@ fn pad_lines(
     flags(&head.flags, text, last, p)
 }
 
-fn last(text: &mut [u8], at: usize, counter: u64, waiting: u8) -> usize {
+fn last(text: &mut [u8], at: usize, counter: u64, waiting: u8) -> usize
+    ensures { λ r. ⌜ written (now (text .exit)) r ≡ laidAll (law.lastLine counter waiting) (written (now (text .entry)) at) ⌝ }
+{
     let end = lines::labelled(text, at, b"END ", counter, SPACE);
     lines::number(text, end, waiting as u64, NEWLINE)
 }
@@ -169,7 +205,12 @@ pub fn dump(
     marks: &Marks,
     text: &mut [u8],
     at: usize,
-) -> usize {
+) -> usize
+    ensures { λ r. ⌜ ((kinds names renames queuebytes queuecodes : List ℕ) →
+        written (now (text .exit)) r ≡ laidAll (dumpPieces (hubOf head (listed (now (codes .entry)) kinds names renames)
+        (columns (now (hasbutton .entry)) (now (hasaxis .entry)) (now (values .entry)) (now (times .entry)) (now (marks .entry)) queuebytes queuecodes)))
+        (written (now (text .entry)) at)) ⌝ }
+{
     let mut next = at;
     let mut p: u8 = 0;
     while p < PADS {

@@ -1,5 +1,15 @@
-// The operations of the oracle's scenario form (`oracle/README.md`) that send events or count, played on a hub that is lent: pump, update, insert, and the counter.
-// The head goes in and comes back by value, the arrays are changed in place.
+// The operations of the oracle's scenario form (`oracle/README.md`) that send events or count, played on a hub that is lent: pump, update, insert, and the
+// counter. The head goes in and comes back by value, the arrays are changed in place. Proved: answer, hub and every byte of the out buffer are what the
+// operation's row of the table says (specs/Sent.antt), at the hub that head and arrays stand for, for every opcode and payload. By the calls' own contracts: a
+// function here only picks the call and reads its numbers off the payload.
+ghost use mathlib.Core.Path.{_≡_};
+ghost use mathlib.Core.Bool.{Bool};
+ghost use mathlib.Core.List.{List};
+ghost use Prim.Native.Nat.{ℕ};
+ghost use Rattle.hub.specs.Lent.{Listed, Columns, listed, columns, hubOf};
+ghost use Rattle.rules.specs.Calls.{updateOf, insertOf};
+ghost use Rattle.replay_answers.specs.Told.{told};
+ghost use Rattle.replay_events.specs.Sent.{sent, pumpedOf, updated, inserted, countedOf, sends, sentOf};
 use columns::Marks;
 use columns::QueueBytes;
 use columns::QueueCodes;
@@ -43,7 +53,14 @@ fn pump<'s>(
     queuecodes: &mut QueueCodes,
     payload: &[u8],
     out: &mut [u8],
-) -> Told {
+) -> Told
+    ensures { λ r. ⌜ sent (now (out .exit)) (told r (listed (now (codes .entry)) (now (kinds .entry)) (now (names .entry)) (now (renames .entry)))
+        (columns (now (hasbutton .exit)) (now (hasaxis .exit)) (now (values .exit)) (now (times .exit)) (now (marks .exit))
+        (now (queuebytes .exit)) (now (queuecodes .exit))))
+        ≡ pumpedOf (hubOf head (listed (now (codes .entry)) (now (kinds .entry)) (now (names .entry)) (now (renames .entry)))
+        (columns (now (hasbutton .entry)) (now (hasaxis .entry)) (now (values .entry)) (now (times .entry)) (now (marks .entry))
+        (now (queuebytes .entry)) (now (queuecodes .entry)))) (now (payload .entry)) (now (out .entry)) ⌝ }
+{
     if payload.len() < BATCH_AT {
         return replay_answers::tell(head, Changed::Nothing);
     }
@@ -81,7 +98,14 @@ fn update(
     times: &mut Times,
     marks: &mut Marks,
     event: &[u8],
-) -> Told {
+) -> Told
+    ensures { λ r. ⌜ ((kinds names renames queuebytes queuecodes : List ℕ) →
+        told r (listed (now (codes .entry)) kinds names renames)
+        (columns (now (hasbutton .exit)) (now (hasaxis .exit)) (now (values .exit)) (now (times .exit)) (now (marks .exit)) queuebytes queuecodes)
+        ≡ updated (updateOf (hubOf head (listed (now (codes .entry)) kinds names renames)
+        (columns (now (hasbutton .entry)) (now (hasaxis .entry)) (now (values .entry)) (now (times .entry)) (now (marks .entry)) queuebytes queuecodes))
+        (now (event .entry)))) ⌝ }
+{
     let answer = calls::update(head, codes, hasbutton, hasaxis, values, times, marks, event);
     replay_answers::tell(head, Changed::Updated(answer))
 }
@@ -94,14 +118,23 @@ fn insert(
     queuebytes: &mut QueueBytes,
     queuecodes: &mut QueueCodes,
     event: &[u8],
-) -> Told {
+) -> Told
+    ensures { λ r. ⌜ ((kinds names renames : List ℕ) (hasbutton hasaxis marks : List Bool) →
+        told r (listed (now (codes .entry)) kinds names renames)
+        (columns hasbutton hasaxis (now (values .exit)) (now (times .exit)) marks (now (queuebytes .exit)) (now (queuecodes .exit)))
+        ≡ inserted (insertOf (hubOf head (listed (now (codes .entry)) kinds names renames)
+        (columns hasbutton hasaxis (now (values .entry)) (now (times .entry)) marks (now (queuebytes .entry)) (now (queuecodes .entry))))
+        (now (event .entry)))) ⌝ }
+{
     let r = calls::insert_event(head, codes, values, times, queuebytes, queuecodes, event);
     let h = r.head;
     let answer = r.answer;
     replay_answers::tell(h, Changed::Inserted(answer))
 }
 
-fn count(head: Head, opcode: u8) -> Told {
+fn count(head: Head, opcode: u8) -> Told
+    ensures { λ r. ⌜ ((s : Listed) (t : Columns) → told r s t ≡ countedOf (hubOf head s t) opcode) ⌝ }
+{
     if opcode == INC {
         let h = clock::inc(head);
         return replay_answers::tell(h, Changed::Counter(clock::counter(h)));
@@ -116,12 +149,19 @@ fn count(head: Head, opcode: u8) -> Told {
 // ---- any operation that sends events or counts
 
 // Whether an opcode is a pump, an update, an insert, or a change of the counter.
-pub fn sends(opcode: u8) -> bool {
-    opcode == PUMP
-        || opcode == UPDATE
-        || opcode == INSERT
-        || opcode == INC
-        || opcode == RESET_COUNTER
+pub fn sends(opcode: u8) -> bool
+    ensures { λ r. ⌜ r ≡ sends opcode ⌝ }
+{
+    choices::either(
+        opcode == PUMP,
+        choices::either(
+            opcode == UPDATE,
+            choices::either(
+                opcode == INSERT,
+                choices::either(opcode == INC, opcode == RESET_COUNTER),
+            ),
+        ),
+    )
 }
 
 // Plays one of them.
@@ -141,7 +181,14 @@ pub fn send<'s>(
     opcode: u8,
     payload: &[u8],
     out: &mut [u8],
-) -> Told {
+) -> Told
+    ensures { λ r. ⌜ sent (now (out .exit)) (told r (listed (now (codes .entry)) (now (kinds .entry)) (now (names .entry)) (now (renames .entry)))
+        (columns (now (hasbutton .exit)) (now (hasaxis .exit)) (now (values .exit)) (now (times .exit)) (now (marks .exit))
+        (now (queuebytes .exit)) (now (queuecodes .exit))))
+        ≡ sentOf (hubOf head (listed (now (codes .entry)) (now (kinds .entry)) (now (names .entry)) (now (renames .entry)))
+        (columns (now (hasbutton .entry)) (now (hasaxis .entry)) (now (values .entry)) (now (times .entry)) (now (marks .entry))
+        (now (queuebytes .entry)) (now (queuecodes .entry)))) opcode (now (payload .entry)) (now (out .entry)) ⌝ }
+{
     if opcode == PUMP {
         return pump(
             head,

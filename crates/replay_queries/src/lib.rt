@@ -1,4 +1,12 @@
-// The operations of the oracle's scenario form (`oracle/README.md`) that leave the hub as it is, played on a hub that is lent: the queries and Repeat.
+// The operations of the oracle's scenario form (`oracle/README.md`) that leave the hub as it is, played on a hub that is lent: the queries and Repeat. Proved:
+// each answers what its row of the table says (specs/Asked.antt), at the hub that head and arrays stand for, for every opcode and payload, and whatever the
+// arrays hold that are not lent. By the calls' own contracts: a function here only picks the call and reads its numbers off the payload.
+ghost use mathlib.Core.Path.{_≡_};
+ghost use mathlib.Core.Bool.{Bool};
+ghost use mathlib.Core.List.{List};
+ghost use Prim.Native.Nat.{ℕ};
+ghost use Rattle.hub.specs.Lent.{Listed, Columns, listed, columns, hubOf};
+ghost use Rattle.replay_queries.specs.Asked.{repeated, stands, ofHead, stateByCode, byCode, byName, askedOf};
 use columns::Marks;
 use columns::Times;
 use columns::Values;
@@ -59,7 +67,12 @@ fn state_by_code(
     opcode: u8,
     p: u8,
     code: u32,
-) -> Asked {
+) -> Asked
+    ensures { λ r. ⌜ ((kinds names renames queuebytes queuecodes : List ℕ) →
+        r ≡ stateByCode (hubOf head (listed (now (codes .entry)) kinds names renames)
+        (columns (now (hasbutton .entry)) (now (hasaxis .entry)) (now (values .entry)) (now (times .entry)) (now (marks .entry)) queuebytes queuecodes))
+        opcode p code) ⌝ }
+{
     if opcode == PRESSED_BY_CODE {
         return Asked::Pressed(queries::is_pressed_by_code(
             head,
@@ -126,7 +139,12 @@ fn by_code<'s>(
     opcode: u8,
     p: u8,
     code: u32,
-) -> Asked {
+) -> Asked
+    ensures { λ r. ⌜ ((queuebytes queuecodes : List ℕ) →
+        r ≡ byCode (hubOf head (listed (now (codes .entry)) (now (kinds .entry)) (now (names .entry)) (now (renames .entry)))
+        (columns (now (hasbutton .entry)) (now (hasaxis .entry)) (now (values .entry)) (now (times .entry)) (now (marks .entry)) queuebytes queuecodes))
+        opcode p code) ⌝ }
+{
     if opcode == NAME_OF_CODE {
         return Asked::Name(queries::axis_or_btn_name(head, codes, names, renames, p, code));
     }
@@ -170,7 +188,12 @@ fn by_name<'s>(
     opcode: u8,
     p: u8,
     name: u8,
-) -> Asked {
+) -> Asked
+    ensures { λ r. ⌜ ((kinds queuebytes queuecodes : List ℕ) →
+        r ≡ byName (hubOf head (listed (now (codes .entry)) kinds (now (names .entry)) (now (renames .entry)))
+        (columns (now (hasbutton .entry)) (now (hasaxis .entry)) (now (values .entry)) (now (times .entry)) (now (marks .entry)) queuebytes queuecodes))
+        opcode p name) ⌝ }
+{
     if opcode == PRESSED_BY_NAME {
         return Asked::Pressed(queries::is_pressed(
             head,
@@ -232,18 +255,28 @@ fn by_name<'s>(
 
 // ---- the head, and Repeat
 
+// Whether a pad is connected.
+fn stands(head: Head, payload: &[u8]) -> Asked
+    ensures { λ r. ⌜ ((s : Listed) (t : Columns) → r ≡ stands (hubOf head s t) (now (payload .entry))) ⌝ }
+{
+    if payload.len() != PAD_PAYLOAD {
+        return Asked::Nothing;
+    }
+    Asked::Stands(queries::is_connected(head, payload[0]))
+}
+
 // What the head has, whatever the arrays hold.
-fn of_head(head: Head, opcode: u8, payload: &[u8]) -> Asked {
+fn of_head(head: Head, opcode: u8, payload: &[u8]) -> Asked
+    ensures { λ r. ⌜ ((s : Listed) (t : Columns) → r ≡ ofHead (hubOf head s t) opcode (now (payload .entry))) ⌝ }
+{
     if opcode == COUNTER {
         return Asked::Counter(clock::counter(head));
     }
+    if opcode == STANDS {
+        return stands(head, payload);
+    }
     if opcode == WAITING {
         return Asked::Waiting(queries::waiting(head));
-    }
-    if payload.len() == PAD_PAYLOAD {
-        if opcode == STANDS {
-            return Asked::Stands(queries::is_connected(head, payload[0]));
-        }
     }
     Asked::Nothing
 }
@@ -258,7 +291,12 @@ fn repeat<'s>(
     times: &Times,
     marks: &Marks,
     payload: &[u8],
-) -> Asked {
+) -> Asked
+    ensures { λ r. ⌜ ((kinds queuebytes queuecodes : List ℕ) (hasaxis : List Bool) →
+        r ≡ repeated (hubOf head (listed (now (codes .entry)) kinds (now (names .entry)) (now (renames .entry)))
+        (columns (now (hasbutton .entry)) hasaxis (now (values .entry)) (now (times .entry)) (now (marks .entry)) queuebytes queuecodes))
+        (now (payload .entry))) ⌝ }
+{
     if payload.len() != REPEAT_PAYLOAD {
         return Asked::Nothing;
     }
@@ -293,7 +331,12 @@ pub fn ask<'s>(
     marks: &Marks,
     opcode: u8,
     payload: &[u8],
-) -> Asked {
+) -> Asked
+    ensures { λ r. ⌜ ((queuebytes queuecodes : List ℕ) →
+        r ≡ askedOf (hubOf head (listed (now (codes .entry)) (now (kinds .entry)) (now (names .entry)) (now (renames .entry)))
+        (columns (now (hasbutton .entry)) (now (hasaxis .entry)) (now (values .entry)) (now (times .entry)) (now (marks .entry)) queuebytes queuecodes))
+        opcode (now (payload .entry))) ⌝ }
+{
     if opcode == REPEAT {
         return repeat(
             head,

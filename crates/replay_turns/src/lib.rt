@@ -1,4 +1,15 @@
-// One operation of the oracle's scenario form (`oracle/README.md`) with its lines, by what it does to the hub: one that changes it, and one that leaves it as it is.
+// One operation of the oracle's scenario form (`oracle/README.md`) with its lines, by what it does to the hub: one that changes it, and one that leaves it as
+// it is. Proved: which operations change the hub, and answer, hub and out buffer after one (specs/Changed.antt), by what `replay_desk` and `replay_events`
+// promise; and what either prints, with what stands after it (specs/Shown.antt), by what `replay_lines` and `replay_dump` promise.
+ghost use mathlib.Core.Path.{_≡_};
+ghost use mathlib.Core.List.{List};
+ghost use Prim.Native.Nat.{ℕ};
+ghost use Rattle.hub.specs.Lent.{listed, columns, hubOf};
+ghost use Rattle.replay_answers.specs.Told.{told};
+ghost use Rattle.replay_events.specs.Sent.{sent};
+ghost use Rattle.replay_words.specs.Pieces.{written};
+ghost use Rattle.replay_turns.specs.Changed.{changesOf, changedOf};
+ghost use Rattle.replay_turns.specs.Shown.{begunOf, standsAfter, shown, afterOf, behindOf, queriedOf};
 use columns::Marks;
 use columns::QueueBytes;
 use columns::QueueCodes;
@@ -22,14 +33,20 @@ pub struct Game {
 // ---- operations that change the hub
 
 // Whether an operation changes the hub: but for `new` it needs one that stands.
-pub fn changes(stands: bool, opcode: u8) -> bool {
+pub fn changes(stands: bool, opcode: u8) -> bool
+    ensures { λ r. ⌜ r ≡ changesOf stands opcode ⌝ }
+{
     if opcode == NEW {
         return true;
     }
-    if stands {
-        return replay_desk::sets_up(opcode) || replay_events::sends(opcode);
+    if !stands {
+        return false;
     }
-    false
+    let sets = replay_desk::sets_up(opcode);
+    if sets {
+        return true;
+    }
+    replay_events::sends(opcode)
 }
 
 // An operation that changes the hub.
@@ -49,7 +66,14 @@ pub fn change(
     opcode: u8,
     payload: &[u8],
     out: &mut [u8],
-) -> Told {
+) -> Told
+    ensures { λ r. ⌜ sent (now (out .exit)) (told r (listed (now (codes .exit)) (now (kinds .exit)) (now (names .exit)) (now (renames .exit)))
+        (columns (now (hasbutton .exit)) (now (hasaxis .exit)) (now (values .exit)) (now (times .exit)) (now (marks .exit))
+        (now (queuebytes .exit)) (now (queuecodes .exit))))
+        ≡ changedOf (hubOf head (listed (now (codes .entry)) (now (kinds .entry)) (now (names .entry)) (now (renames .entry)))
+        (columns (now (hasbutton .entry)) (now (hasaxis .entry)) (now (values .entry)) (now (times .entry)) (now (marks .entry))
+        (now (queuebytes .entry)) (now (queuecodes .entry)))) opcode (now (payload .entry)) (now (out .entry)) ⌝ }
+{
     if replay_desk::sets_up(opcode) {
         return replay_desk::set_up(
             head,
@@ -88,29 +112,61 @@ pub fn change(
 }
 
 // Whether a hub stands after `new`: it may have been refused, or be no operation of the form.
-fn begun(answer: Changed) -> bool {
+fn begun(answer: Changed) -> bool
+    ensures { λ r. ⌜ r ≡ begunOf answer ⌝ }
+{
     match answer {
         Changed::Begun(a) => match a {
             Answer::Done => true,
             Answer::Refused(_) => false,
         },
-        _ => false,
+        Changed::Registered(_) => false,
+        Changed::Renamed(_) => false,
+        Changed::Pumped(_) => false,
+        Changed::Updated(_) => false,
+        Changed::Inserted(_) => false,
+        Changed::Counter(_) => false,
+        Changed::Nothing => false,
     }
 }
 
+// Whether a hub stands after an operation that changes it.
+fn stands_after(opcode: u8, answer: Changed) -> bool
+    ensures { λ r. ⌜ r ≡ standsAfter opcode answer ⌝ }
+{
+    if opcode == NEW {
+        return begun(answer);
+    }
+    true
+}
+
 // The lines of what an operation that changes the hub told.
-pub fn after(told: Told, opcode: u8, out: &[u8], text: &mut [u8], at: usize) -> Game {
+pub fn after(told: Told, opcode: u8, out: &[u8], text: &mut [u8], at: usize) -> Game
+    ensures { λ r. ⌜ shown r (now (text .exit)) ≡ afterOf told opcode (now (out .entry)) (written (now (text .entry)) at) ⌝ }
+{
     let head = told.head;
     let answer = told.answer;
-    let next = replay_answers::call_lines(text, at, out, answer);
+    let next = replay_lines::call_lines(text, at, out, answer);
     Game {
-        stands: opcode != NEW || begun(answer),
+        stands: stands_after(opcode, answer),
         head,
         at: next,
     }
 }
 
 // ---- operations that leave the hub as it is
+
+// The same game, with more text.
+fn behind(g: Game, at: usize) -> Game
+    ensures { λ r. ⌜ r ≡ behindOf g at ⌝ }
+{
+    let head = g.head;
+    Game {
+        stands: g.stands,
+        head,
+        at: at,
+    }
+}
 
 // The dump, or a query; without a hub it says so.
 pub fn query<'s>(
@@ -127,26 +183,32 @@ pub fn query<'s>(
     opcode: u8,
     payload: &[u8],
     text: &mut [u8],
-) -> Game {
-    let mut next = g;
+) -> Game
+    ensures { λ r. ⌜ ((queuebytes queuecodes : List ℕ) →
+        shown r (now (text .exit)) ≡ queriedOf g (hubOf (g .head) (listed (now (codes .entry)) (now (kinds .entry)) (now (names .entry)) (now (renames .entry)))
+        (columns (now (hasbutton .entry)) (now (hasaxis .entry)) (now (values .entry)) (now (times .entry)) (now (marks .entry)) queuebytes queuecodes))
+        opcode (now (payload .entry)) (now (text .entry))) ⌝ }
+{
     let head = g.head;
+    let at = g.at;
     if !g.stands {
-        next.at = lines::append(text, g.at, b"NO HUB\n");
-        return next;
+        return behind(g, lines::append(text, at, b"NO HUB\n"));
     }
     if opcode == DUMP {
-        next.at = replay_dump::dump(
-            head,
-            codes,
-            hasbutton,
-            hasaxis,
-            values,
-            times,
-            marks,
-            text,
-            g.at,
+        return behind(
+            g,
+            replay_dump::dump(
+                head,
+                codes,
+                hasbutton,
+                hasaxis,
+                values,
+                times,
+                marks,
+                text,
+                at,
+            ),
         );
-        return next;
     }
     let answer = replay_queries::ask(
         head,
@@ -162,6 +224,5 @@ pub fn query<'s>(
         opcode,
         payload,
     );
-    next.at = replay_answers::query_line(text, g.at, answer);
-    next
+    behind(g, replay_lines::query_line(text, at, answer))
 }

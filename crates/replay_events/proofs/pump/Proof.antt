@@ -1,7 +1,12 @@
--- `pump` is safe and ends: the part of the out buffer that is lent lies in it.
-use mathlib.Core.Path.{sym}
+-- `replay_events::pump` meets its contract: by the payload's length. The numbers given on are those read off the payload, the batch is what stands behind
+-- them, and the part of the out buffer that is lent comes back before the rest.
+use mathlib.Core.Path.{_∙_, sym, ap}
 use native.Mathlib.Omega.{arith}
 use lib.Seq.{length-take-le}
+use borrow.Author.Tests.{lt-ltb, le-ltb}
+use Rattle.replay_answers.specs.Payload.{behind}
+use Rattle.replay_answers.specs.Told.{told-is}
+use Rattle.replay_events.specs.Sent.{sent, pumped, pumpedOf}
 use borrow.Author.Needs.{needs}
 use Rattle.replay_events.proofs.pump.Statement.{statement}
 use Rattle.replay_events.proofs.pump.Tie as tie
@@ -10,7 +15,9 @@ tell-requires : tie.Need-tell-requires
 tell-requires c κs = search needs
 
 returns : tie.Need-returns
-returns c = search needs
+unfolding pumpedOf
+returns c =
+    ap (sent _) (told-is _ _ _ (c .tell .ensures)) ∙ rw (lt-ltb _ _ (c .before .if1 .taken))
 
 read4-requires : tie.Need-read4-requires
 read4-requires c κs = search needs
@@ -55,7 +62,19 @@ same-length : tie.Need-same-length
 same-length c = search needs
 
 returns-2 : tie.Need-returns-2
-returns-2 c = search needs
+unfolding pumpedOf
+returns-2 c =
+    let sized = c .before .before .before .before .before .before .before .before .before .before .before .before .before .before .before in
+    ap (sent _) (told-is _ _ _ (c .tell2 .ensures))
+    ∙ rw (
+      le-ltb _ _ (sized .before .before .before .if1 .left),
+      ← sized .before .before .read4 .ensures,
+      ← sized .before .read42 .ensures,
+      ← sized .least .ensures,
+      ← c .before .before .before .before .before .read2 .ensures,
+      ← behind 10 (sized .before .before .before .before .before .before .args .payload .now),
+    )
+    (ap (pumped _) (c .before .before .before .before .pump .ensures))
 
 pub pump-spec : {M : Type 1} → statement M
 pump-spec =

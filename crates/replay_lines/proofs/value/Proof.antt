@@ -1,0 +1,69 @@
+-- `value` prints what its definition says in each case.
+use borrow.Author.Needs.{needs}
+use Rattle.replay_words.proofs.Laws.{lays, then}
+use Rattle.replay_lines.proofs.value.Statement.{statement}
+use Rattle.replay_lines.proofs.value.Tie as tie
+
+enum-known-answer : tie.Need-enum-known-answer
+enum-known-answer c = c .match .keys1
+
+append-requires : tie.Need-append-requires
+append-requires c κs = tt
+
+bits-of-requires : tie.Need-bits-of-requires
+bits-of-requires c κs = tt
+
+hex-requires : tie.Need-hex-requires
+hex-requires c κs = tt
+
+enum-told : tie.Need-enum-told
+enum-told c = c .match .keys2
+
+absent-requires : tie.Need-absent-requires
+absent-requires c κs = tt
+
+enum-known-answer-2 : tie.Need-enum-known-answer-2
+enum-known-answer-2 c = c .match .keys3
+
+refused-requires : tie.Need-refused-requires
+refused-requires c κs = tt
+
+same-length : tie.Need-same-length
+same-length c = search needs
+
+returns : tie.Need-returns
+returns c =
+    let digits = c .before .before in
+    let label = digits .before .before .before .before .before in
+    rw (label .before .before .before .answer .given .1, ← digits .before .bits-of .ensures) (then _ _ (lays (label .append .ensures)) (digits .hex .ensures))
+
+same-length-2 : tie.Need-same-length-2
+same-length-2 c = search needs
+
+returns-2 : tie.Need-returns-2
+returns-2 c = rw (c .before .before .before .before .enum-told .given .1) (c .before .before .absent .ensures)
+
+same-length-3 : tie.Need-same-length-3
+same-length-3 c = search needs
+
+returns-3 : tie.Need-returns-3
+returns-3 c = rw (c .before .before .before .before .before .answer2 .given .1) (c .before .before .refused .ensures)
+
+pub value-spec : {M : Type 1} → statement M
+value-spec =
+    tie.close
+    (tie.spec
+    enum-known-answer
+    append-requires
+    bits-of-requires
+    hex-requires
+    enum-told
+    absent-requires
+    enum-known-answer-2
+    refused-requires
+    same-length
+    returns
+    same-length-2
+    returns-2
+    same-length-3
+    returns-3)

@@ -1,0 +1,40 @@
+-- Lines printed into a buffer that has room for them. Computed.
+use mathlib.Core.Path.{_≡_, refl}
+use mathlib.Core.List.{[], _∷_}
+use lib.ListN.{take, replicate}
+use lib.Ieee as Ieee
+use lib.Ieee.{binary32}
+use Rattle.rules.specs.declared.ValueAnswer.the-variants as valueAnswer
+use Rattle.rules.specs.declared.NumberAnswer.the-variants as numberAnswer
+use Rattle.rules.specs.declared.PumpAnswer.the-variants as pumpAnswer
+use Rattle.lines.specs.Appending.{laidOver}
+use Rattle.lines.specs.Text.{numberText, hexText, decimalOf, hexOf, placesOf, heldOf, linesOf}
+use Rattle.lines.specs.Letters.{A, D, E, F, L, M, N, R, S, U, Vee, space, newline}
+use Rattle.replay_answers.specs.declared.Asked.the-variants as asked
+use Rattle.replay_answers.specs.declared.Changed.the-variants as changed
+use Rattle.replay_words.specs.Pieces.{Written, written, laid, laidAll}
+use Rattle.replay_lines.specs.Lines.{queryPieces, callPieces}
+
+-- 96 bytes of 0, nothing printed yet
+empty : Written
+empty = written (replicate 96 0) 0
+
+-- "VALUE 3f800000"
+value-line :
+    take 15 (laidAll (queryPieces (asked.Value (valueAnswer.Value (Ieee.ofBits binary32 0x3f800000)))) empty .bytes)
+    ≡ Vee ∷ A ∷ L ∷ U ∷ E ∷ space ∷ 51 ∷ 102 ∷ 56 ∷ 48 ∷ 48 ∷ 48 ∷ 48 ∷ 48 ∷ newline ∷ []
+unfolding empty queryPieces laidAll laid laidOver hexText hexOf Ieee.ofBits Ieee.toBits
+value-line = refl
+
+-- "NAME 255"
+name-line :
+    take 9 (laidAll (queryPieces (asked.Name numberAnswer.Absent)) empty .bytes) ≡ N ∷ A ∷ M ∷ E ∷ space ∷ 50 ∷ 53 ∷ 53 ∷ newline ∷ []
+unfolding empty queryPieces laidAll laid laidOver numberText decimalOf placesOf
+name-line = refl
+
+-- "REFUSED 8 42 0 2": the third record, at place 42, is malformed; no event so far, two steps
+pump-line :
+    take 17 (laidAll (callPieces [] (changed.Pumped (pumpAnswer.Refused 8 42 0 2))) empty .bytes)
+    ≡ R ∷ E ∷ F ∷ U ∷ S ∷ E ∷ D ∷ space ∷ 56 ∷ space ∷ 52 ∷ 50 ∷ space ∷ 48 ∷ space ∷ 50 ∷ newline ∷ []
+unfolding empty callPieces laidAll laid laidOver numberText decimalOf placesOf heldOf linesOf
+pump-line = refl

@@ -1,0 +1,77 @@
+-- The table of `oracle/README.md` by its numbers, row by row: what `askedOf` answers where the payload is as long as the row says.
+use Prim.Native.Nat.{ℕ}
+use mathlib.Core.Path.{_≡_, refl}
+use mathlib.Core.List.{List}
+use lib.ListN.{length, getD}
+use Rattle.rules.specs.declared.Hub.{Hub}
+use Rattle.rules.specs.Forms.{fieldOf}
+use Rattle.rules.specs.Repeat.{repeatOf}
+use Rattle.rules.specs.Queries.{pressedByCode, pressedByName, connectedOf, valueByCode, valueByName, thresholdByCode}
+use Rattle.rules.specs.Queries.{buttonByCode, buttonByName, axisByCode, axisByName, nameByCode, codeByName}
+use Rattle.replay_answers.specs.declared.Asked.the-variants as asked
+use Rattle.replay_queries.specs.Asked.{repeated, stands, ofHead, stateByCode, byCode, byName, queried, askedOf}
+
+module _ (h : Hub) (s : List ℕ) where
+  pub row-7 : length s ≡ 24 → askedOf h 7 s ≡ asked.Repeat (repeatOf h (fieldOf s 0 8) (fieldOf s 8 8) (fieldOf s 16 8))
+  unfolding askedOf repeated
+  row-7 long = rw long
+
+  pub row-9 : askedOf h 9 s ≡ asked.Counter (h .counter)
+  unfolding askedOf ofHead
+  row-9 = refl
+
+  pub row-22 : length s ≡ 1 → askedOf h 22 s ≡ asked.Stands (connectedOf h (getD s 0 0))
+  unfolding askedOf ofHead stands
+  row-22 long = rw long
+
+  pub row-23 : askedOf h 23 s ≡ asked.Waiting (h .waiting)
+  unfolding askedOf ofHead
+  row-23 = refl
+
+  -- pad 1, code 4
+  module _ (long : length s ≡ 5) where
+    pub row-11 : askedOf h 11 s ≡ asked.Pressed (pressedByCode h (getD s 0 0) (fieldOf s 1 4))
+    unfolding askedOf queried byCode stateByCode
+    row-11 = rw long
+
+    pub row-12 : askedOf h 12 s ≡ asked.Value (valueByCode h (getD s 0 0) (fieldOf s 1 4))
+    unfolding askedOf queried byCode stateByCode
+    row-12 = rw long
+
+    pub row-15 : askedOf h 15 s ≡ asked.Button (buttonByCode h (getD s 0 0) (fieldOf s 1 4))
+    unfolding askedOf queried byCode stateByCode
+    row-15 = rw long
+
+    pub row-16 : askedOf h 16 s ≡ asked.Axis (axisByCode h (getD s 0 0) (fieldOf s 1 4))
+    unfolding askedOf queried byCode stateByCode
+    row-16 = rw long
+
+    pub row-19 : askedOf h 19 s ≡ asked.Name (nameByCode h (getD s 0 0) (fieldOf s 1 4))
+    unfolding askedOf queried byCode stateByCode
+    row-19 = rw long
+
+    pub row-21 : askedOf h 21 s ≡ asked.Threshold (thresholdByCode h (getD s 0 0) (fieldOf s 1 4))
+    unfolding askedOf queried byCode stateByCode
+    row-21 = rw long
+
+  -- pad 1, name 1
+  module _ (long : length s ≡ 2) where
+    pub row-13 : askedOf h 13 s ≡ asked.Pressed (pressedByName h (getD s 0 0) (getD s 1 0))
+    unfolding askedOf queried byName
+    row-13 = rw long
+
+    pub row-14 : askedOf h 14 s ≡ asked.Value (valueByName h (getD s 0 0) (getD s 1 0))
+    unfolding askedOf queried byName
+    row-14 = rw long
+
+    pub row-17 : askedOf h 17 s ≡ asked.Button (buttonByName h (getD s 0 0) (getD s 1 0))
+    unfolding askedOf queried byName
+    row-17 = rw long
+
+    pub row-18 : askedOf h 18 s ≡ asked.Axis (axisByName h (getD s 0 0) (getD s 1 0))
+    unfolding askedOf queried byName
+    row-18 = rw long
+
+    pub row-20 : askedOf h 20 s ≡ asked.Code (codeByName h (getD s 0 0) (getD s 1 0))
+    unfolding askedOf queried byName
+    row-20 = rw long

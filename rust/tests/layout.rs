@@ -1,0 +1,49 @@
+//! The structs lie in memory as the library has them (x86-64, the C layout).
+
+use copperyarn::layout::*;
+use std::mem::{align_of, offset_of, size_of};
+
+#[test]
+fn the_head_has_80_bytes() {
+    assert_eq!((size_of::<Head>(), align_of::<Head>()), (80, 8));
+    assert_eq!(offset_of!(Head, pressed), 0);
+    assert_eq!(offset_of!(Head, released), 4);
+    assert_eq!(offset_of!(Head, reversed), 8);
+    assert_eq!(offset_of!(Head, filters), 9);
+    assert_eq!(offset_of!(Head, updates), 10);
+    assert_eq!(offset_of!(Head, counter), 16);
+    assert_eq!(offset_of!(Head, pads), 24);
+    assert_eq!(offset_of!(Head, counts), 25);
+    assert_eq!(offset_of!(Head, connected), 29);
+    assert_eq!(offset_of!(Head, hats), 33);
+    assert_eq!(offset_of!(Head, converts), 37);
+    assert_eq!(offset_of!(Head, renamed), 41);
+    assert_eq!(offset_of!(Head, newhats), 45);
+    assert_eq!(offset_of!(Head, newconverts), 49);
+    assert_eq!(offset_of!(Head, flags), 53);
+    assert_eq!(offset_of!(Head, head), 77);
+    assert_eq!(offset_of!(Head, waiting), 78);
+}
+
+#[test]
+fn the_answers_have_their_sizes() {
+    assert_eq!((size_of::<Pad>(), size_of::<Truth>(), size_of::<Due>()), (2, 2, 2));
+    assert_eq!((size_of::<Value>(), offset_of!(Value, value)), (8, 4));
+    assert_eq!((size_of::<Number>(), offset_of!(Number, number)), (8, 4));
+    assert_eq!((size_of::<Button>(), offset_of!(Button, value), offset_of!(Button, stamp)), (24, 4, 8));
+    assert_eq!((size_of::<Axis>(), offset_of!(Axis, value), offset_of!(Axis, stamp)), (24, 4, 8));
+    assert_eq!((size_of::<Report>(), offset_of!(Report, place), offset_of!(Report, steps)), (32, 8, 24));
+}
+
+#[test]
+fn the_changed_head_comes_first() {
+    assert_eq!((size_of::<Done>(), offset_of!(Done, refusal)), (88, 80));
+    assert_eq!((size_of::<Registered>(), offset_of!(Registered, pad)), (88, 80));
+    assert_eq!((size_of::<Pumped>(), offset_of!(Pumped, report)), (112, 80));
+}
+
+#[test]
+fn a_hub_is_some_15_kilobytes_behind_one_pointer() {
+    assert_eq!(size_of::<Fields>(), 14_672);
+    assert_eq!(size_of::<copperyarn::Hub>(), size_of::<usize>());
+}
