@@ -1,21 +1,21 @@
 -- "The queue holds 64. It never overflows": what a step and an accepted insert do to the waiting events, as a list, and to their weighted sum. "No step
 -- that takes from the queue raises that sum, a step on an empty queue leaves at most 4, an accepted insert at most 64."
-use Prim.Native.Nat.{_+_, _-_, _%_, _<_, _≤_}
+use Prim.Native.Nat.{ℕ, _+_, _-_, _%_, _<_, _≤_}
 use mathlib.Core.Bool.{Bool, true, false}
 use mathlib.Core.List.{List, [], _∷_, _++_}
 use mathlib.Core.Path.{_≡_, refl, _∙_}
 use lib.Dec.{ltb}
-use lib.ListN.{length}
+use lib.ListN.{length, getD}
 use native.Mathlib.Omega.{arith}
 use borrow.Author.Tests.{lt-ltb, ltb-true, ltb-false}
 use Rattle.rules.specs.declared.Hub.{Hub}
 use Rattle.rules.specs.declared.Event.{Event}
 use Rattle.rules.specs.declared.NextRecord.{NextRecord}
 use Rattle.rules.specs.Names.{queueRoom, insertLimit}
-use Rattle.rules.specs.Hub.{frontOf, viewOf, placeIn, nameIn, elementAt, pressedAt}
+use Rattle.rules.specs.Hub.{pastSlot, queueAfter, frontOf, viewOf, placeIn, nameIn, elementAt, pressedAt}
 use Rattle.rules.specs.Step.{headAfter, markedOf, pushesOf, pushedOf, updatedAt, updatedOf, filteredIn, filteredHub, takenOf, recordGives, stepHub}
 use Rattle.rules.specs.Calls.{insertedAt}
-use Rattle.theory_calls.specs.Waiting.{waitingList, waiting-length, ring-length, restOf, popped, empty-rest, pushed, queue-length}
+use Rattle.theory_calls.specs.Waiting.{waitingList, waiting-length, ring-length, restOf, popped, empty-rest, pushed, Away, push-elsewhere, queue-length}
 use Rattle.theory_calls.specs.Weight.{weightOf, weigh, weigh-bounds, weigh-append, brought, record-brings, pushes-light, hatWeight}
 
 -- what holds of every hub that the calls reach: the ring has 64 places, and what waits weighs at most 64
@@ -63,6 +63,11 @@ step-ring : (h : Hub) (l : NextRecord) → length (stepHub h l .queue) ≡ lengt
 unfolding stepHub updatedOf updatedAt filteredHub pushedOf markedOf pushesIn
 step-ring h l = queue-length (pushesIn h l) (h .queue) (headAfter (h .head) (h .waiting)) (h .waiting - 1)
 
+-- "Take from the front without moving the others" (W-202): a step that queues nothing leaves the array as it is
+pub taking-moves-nothing : (h : Hub) (l : NextRecord) → pushesIn h l ≡ [] → stepHub h l .queue ≡ h .queue
+unfolding stepHub updatedOf updatedAt filteredHub pushedOf markedOf pushesIn queueAfter
+taking-moves-nothing h l none = rw none
+
 rest-length : (h : Hub) → length (restOf h) ≡ h .waiting - 1
 unfolding restOf
 rest-length h = ring-length (h .queue) (headAfter (h .head) (h .waiting) % queueRoom) (h .waiting - 1)
@@ -85,6 +90,18 @@ module _ (h : Hub) (l : NextRecord) (z : Sound h) where
   -- nothing is lost: after a step there waits what waited behind what was taken, and behind it every event that the step queued
   pub nothing-lost : waitingList (stepHub h l) ≡ restOf h ++ pushesIn h l
   nothing-lost = step-list h l (z .ring) (room-by (ltb 0 (h .waiting)) refl)
+
+  -- and none moves: a slot that is none of the next places behind those that wait, as many as the step queues, holds what it held
+  pub others-stay : (k : ℕ) → Away (headAfter (h .head) (h .waiting)) (h .waiting - 1) (length (pushesIn h l)) k
+      → getD (stepHub h l .queue) k pastSlot ≡ getD (h .queue) k pastSlot
+  unfolding stepHub updatedOf updatedAt filteredHub pushedOf markedOf pushesIn
+  others-stay k away =
+      push-elsewhere (pushesIn h l) (h .queue) (headAfter (h .head) (h .waiting)) (h .waiting - 1) k few away
+    where
+      few : h .waiting - 1 ≤ queueRoom
+      few =
+          let most = sound-waiting h z in
+          omega arith
 
   -- "No step that takes from the queue raises that sum"
   pub never-rises : 0 < h .waiting → weigh (waitingList (stepHub h l)) ≤ weigh (waitingList h)

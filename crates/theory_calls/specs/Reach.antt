@@ -1,12 +1,12 @@
 -- "The queue holds 64. It never overflows": for every hub that the public calls lead to, whatever they are given, what waits weighs at most 64, so at
 -- most 64 events wait and each that is queued finds room. By induction on the calls.
-use Prim.Native.Nat.{ℕ, zero, suc, _<_, _≤_}
+use Prim.Native.Nat.{ℕ, zero, suc, _-_, _<_, _≤_}
 use mathlib.Core.Bool.{Bool, true, false, cond}
 use mathlib.Core.List.{List, _++_}
 use mathlib.Core.Path.{_≡_, refl, ap, _∙_}
 use lib.Dec.{ltb, eqb}
 use lib.Ieee.{Float}
-use lib.ListN.{length}
+use lib.ListN.{length, getD}
 use native.Mathlib.Omega.{arith}
 use borrow.Author.Tests.{ltb-true, eqb-false}
 use Rattle.rules.specs.declared.Hub.{Hub}
@@ -18,12 +18,13 @@ use Rattle.rules.specs.Names.{insertLimit}
 use Rattle.rules.specs.Forms.{readEvent}
 use Rattle.rules.specs.Refusals.{thresholdsRefusal, formRefusal, insertRefusal, pumpRefusal, unlessFits}
 use Rattle.rules.specs.Events.{formEvent}
-use Rattle.rules.specs.Step.{updatedAt, updatedOf, nextRecordOf, stepHub}
+use Rattle.rules.specs.Hub.{pastSlot}
+use Rattle.rules.specs.Step.{headAfter, updatedAt, updatedOf, nextRecordOf, stepHub}
 use Rattle.rules.specs.Pump.{Progress, Verdict, going, stopping, refusing, steppedBy, stepped, verdictOf, runOf, startOf, pumpBy, pumpOf}
 use Rattle.rules.specs.Calls.{freshHub, idleHub, newBy, newOf, registeredAt, registerRefusal, registerBy, registerOf, renamedAt, renameRefusal, renameBy, renameOf, formPlace, updateFormBy, updateBy, updateOf, insertFormBy, insertBy, insertOf, countedAt, incOf, resetOf}
-use Rattle.theory_calls.specs.Waiting.{ringList, waitingList, restOf}
+use Rattle.theory_calls.specs.Waiting.{ringList, waitingList, Away, restOf}
 use Rattle.theory_calls.specs.Weight.{weigh}
-use Rattle.theory_calls.specs.Queue.{Sound, sound-waiting, pushesIn, nothing-lost, step-sound, insert-sound}
+use Rattle.theory_calls.specs.Queue.{Sound, sound-waiting, pushesIn, nothing-lost, others-stay, step-sound, insert-sound}
 
 -- a hub that the public calls lead to; a pump makes steps, whatever record it looks at
 pub data Reached : Hub → Type 0 where
@@ -141,3 +142,9 @@ waiting-small {h} w = sound-waiting h (reached-sound w)
 -- no event is ever lost: after a step there waits what waited behind the event taken, then all that the step queued
 pub reached-keeps : {h : Hub} (l : NextRecord) → Reached h → waitingList (stepHub h l) ≡ restOf h ++ pushesIn h l
 reached-keeps {h} l w = nothing-lost h l (reached-sound w)
+
+-- nor does one move: a slot that is none of the next places behind those that wait, as many as the step queues, holds what it held
+pub reached-stays : {h : Hub} (l : NextRecord) → Reached h → (k : ℕ)
+    → Away (headAfter (h .head) (h .waiting)) (h .waiting - 1) (length (pushesIn h l)) k
+    → getD (stepHub h l .queue) k pastSlot ≡ getD (h .queue) k pastSlot
+reached-stays {h} l w = others-stay h l (reached-sound w)

@@ -1,12 +1,14 @@
 -- The waiting events of a hub as a list, from the front on, and what the ring does to it: events pushed where there is room stand behind it in their
 -- order, and a step takes its first. So nothing that was queued is lost, and freed room is used again.
 use Prim.Native.Nat.{ℕ, zero, suc, _+_, _-_, _%_, _<_, _≤_}
+use mathlib.Core.Bool.{Bool, true, false, cond}
 use mathlib.Core.List.{List, [], _∷_, _++_, append-nil, append-assoc}
 use mathlib.Core.Path.{_≡_, refl, ap, sym, _∙_}
 use lib.ListN.{length, getD, set, length-set}
 use lib.Seq.{getD-set-same, getD-set-other}
 use native.Mathlib.Omega.{arith}
-use borrow.Author.Tests.{lt-ltb}
+use lib.Dec.{ltb}
+use borrow.Author.Tests.{lt-ltb, ltb-true, ltb-false}
 use Rattle.rules.specs.declared.Hub.{Hub}
 use Rattle.rules.specs.declared.Event.{Event}
 use Rattle.rules.specs.declared.Slot.{Slot}
@@ -95,6 +97,34 @@ pushed (e ∷ es) queue head n long room =
     rw (lt-ltb n queueRoom short)
     (pushed es (set queue (slotAt head n) (slotOf e)) head (n + 1) long′ m
     ∙ rw (push-one queue e n head long short, append-assoc (ringList queue (head % queueRoom) n) (e ∷ []) es))
+
+-- k is none of the places of the next m slots behind n
+abbrev pub Away : ℕ → ℕ → ℕ → ℕ → Type 0
+Away head n m k = (i : ℕ) → i < m → slotAt head (n + i) ≡ k → ⊥
+
+-- nor, after a push, of those behind one more
+away-after : (head n m k : ℕ) → n ≤ queueRoom → Away head n (suc m) k → (longerOf n ≤ queueRoom) × Away head (longerOf n) m k
+unfolding longerOf
+away-after head n m k most away = by (ltb n queueRoom) refl
+  where
+    by : (fits : Bool) → ltb n queueRoom ≡ fits
+        → (cond fits (n + 1) queueRoom ≤ queueRoom) × Away head (cond fits (n + 1) queueRoom) m k
+    by true f =
+        let short = ltb-true n queueRoom f in
+        (omega arith, λ i l x. away (i + 1) (omega arith) (omega (arith, x)))
+    by false f =
+        let full = ltb-false n queueRoom f in
+        (omega arith, λ i l x. away i (omega arith) (omega (arith, x)))
+
+-- and no slot is written but theirs: a place that is none of those behind the n holds what it held
+pub push-elsewhere : (es : List Event) (queue : List Slot) (head n k : ℕ) → n ≤ queueRoom → Away head n (length es) k
+    → getD (queueAfter queue head n es) k pastSlot ≡ getD queue k pastSlot
+unfolding queueAfter
+push-elsewhere [] queue head n k most away = refl
+push-elsewhere (e ∷ es) queue head n k most away =
+    let next = away-after head n (length es) k most away in
+    push-elsewhere es (set queue (slotAt head n) (slotOf e)) head (longerOf n) k (next .0) (next .1)
+    ∙ getD-set-other queue (slotAt head n) k (slotOf e) pastSlot (λ x. away 0 (omega arith) (omega (arith, x)))
 
 -- ---- a pop
 
