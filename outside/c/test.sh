@@ -58,11 +58,14 @@ tested() {
 }
 
 tested -O0 -g
-if [ ${#runner[@]} -eq 0 ] && have valgrind; then
+# valgrind may be at hand and yet unable to watch a program, as without the C library's symbols
+if [ ${#runner[@]} -eq 0 ] && have valgrind && valgrind -q true 2>/dev/null; then
   runner=(valgrind --error-exitcode=1 -q)
   all >"$folder/lines" || { cat "$folder/lines"; exit 1; }
   echo 'No program touches what is not its own: valgrind has nothing to say.'
   runner=()
+else
+  echo 'The run under valgrind was left out: none here that can watch a program for x86-64.'
 fi
 tested -O1 -fsanitize=undefined -fsanitize-undefined-trap-on-error
 tested -O2
