@@ -62,7 +62,7 @@ fn update_form(
     Answer::Done
 }
 
-// Gives an event to the state.
+// WithQueued an event to the state.
 pub fn update(
     head: Head,
     codes: &[u32; 208],

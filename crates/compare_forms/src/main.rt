@@ -37,7 +37,7 @@ fn registered(m: Met, sheet: &[u8]) -> Met {
     if 0 < sheets::sheet_refusal(sheet) {
         return m;
     }
-    let rows = layout::lay(sheet);
+    let rows = layout::rows_of(sheet);
     let start = PLACES_PER_PAD * pads as usize;
     let mut k: usize = 0;
     while k < PLACES_PER_PAD {

@@ -196,7 +196,7 @@ pub extern "C" fn copperyarn_lent_pump<'s>(
     }
 }
 
-// Gives an event's bytes to the state: the refusal's number, 0 where it was done. Refuses 8, 6, 9, 11, 12.
+// WithQueued an event's bytes to the state: the refusal's number, 0 where it was done. Refuses 8, 6, 9, 11, 12.
 #[no_mangle]
 pub extern "C" fn copperyarn_lent_update(
     head: Head,

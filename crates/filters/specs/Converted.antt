@@ -5,7 +5,7 @@ use lib.ListN.{length}
 use Rattle.rules.specs.declared.Event.{Event}
 use Rattle.rules.specs.declared.View.{View}
 use Rattle.rules.specs.Names.{positiveName, negativeName, positiveCode, negativeCode}
-use Rattle.rules.specs.Events.{Gives}
+use Rattle.rules.specs.Events.{WithQueued}
 use Rattle.rules.specs.Filters.{Direction, dpadOf}
 use Rattle.filters.specs.declared.dpad.Converted.{Converted}
 
@@ -21,7 +21,7 @@ abbrev pub minus : ℕ → Direction
 minus n = direction (negativeName n) (negativeCode n)
 
 -- the queue by its length alone
-abbrev pub counted : Gives → Converted
+abbrev pub counted : WithQueued → Converted
 counted g = record { event = g .event; count = length (g .queued) }
 
 -- dpad queues three events at most, so that the sum with a clearing event is a byte

@@ -11,7 +11,7 @@ use Rattle.rules.specs.declared.Event.{Event}
 use Rattle.rules.specs.declared.EventType.{EventType}
 use Rattle.rules.specs.declared.EventType.the-variants.{Pressed, Released, Repeated, Changed, Axis, Connected, Disconnected, Dropped}
 use Rattle.rules.specs.declared.View.{View}
-use Rattle.rules.specs.Events.{Gives, alone}
+use Rattle.rules.specs.Events.{WithQueued, alone}
 use Rattle.rules.specs.Filters.{Direction, hatBy, hatGives, dpadType, dpadOf}
 use Rattle.filters.specs.declared.dpad.Converted.{Converted}
 use Rattle.filters.specs.Converted.{ConvertedIs, counted, plus, minus}
@@ -31,7 +31,7 @@ gives-few : (v : View) (e : Event) (n : ℕ) (x : Float) → length (hatGives v 
 unfolding hatGives
 gives-few v e n x = hat-few (eq x one32) (eq x minusOne32) (v .positive) (v .negative) e (plus n) (minus n)
 
-either-few : (on : Bool) (g h : Gives) → length (g .queued) ≤ 3 → length (h .queued) ≤ 3 → length (cond on g h .queued) ≤ 3
+either-few : (on : Bool) (g h : WithQueued) → length (g .queued) ≤ 3 → length (h .queued) ≤ 3 → length (cond on g h .queued) ≤ 3
 either-few true g h few few' = few
 either-few false g h few few' = few'
 

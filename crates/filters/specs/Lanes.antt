@@ -17,7 +17,7 @@ use Rattle.rules.specs.declared.Flags.{Flags}
 use Rattle.rules.specs.declared.View.{View}
 use Rattle.rules.specs.declared.Zoned.{Zoned}
 use Rattle.rules.specs.Names.{isHat}
-use Rattle.rules.specs.Events.{Gives, with, dropped, alone, eventIf}
+use Rattle.rules.specs.Events.{WithQueued, with, dropped, alone, eventIf}
 use Rattle.rules.specs.Filters.{Filtered, Direction, hatBy, hatGives, unless, passes, shrunk, clearsPartner, flagsAfter, stickZoned, buttonZoned, dpadOf, jitteredOf, deadzoneType, deadzonedOf, joined, unfiltered, filteredOf}
 use Rattle.filters.specs.Converted.{plus, minus}
 
@@ -140,7 +140,7 @@ module _ (p k : ℕ) (v : View) where
   abbrev Value : EventType → Type 0
   Value t = Sends true v (made p k t) (zonedValue (v .own) (v .threshold) (made p k t)) (v .flags) []
 
-  abbrev turns : EventType → Gives
+  abbrev turns : EventType → WithQueued
   turns t = dpadOf (directed (v .positive) (v .negative)) (made p k t)
 
   abbrev Hat : EventType → Type 0
@@ -209,7 +209,7 @@ module _ (p k : ℕ) (v : View) where
   hat-passes false false false true e i j = (refl, refl, refl)
   hat-passes false false true true e i j = (refl, refl, refl)
 
-  abbrev hatted : ℕ → ℕ → Float → Gives
+  abbrev hatted : ℕ → ℕ → Float → WithQueued
   hatted n c x = hatBy (eq x one32) (eq x minusOne32) (v .positive) (v .negative) (made p k (Axis n c x)) (plus n) (minus n)
 
   hat-given : (n c : ℕ) (x : Float) → v .converts && isHat n ≡ true → dpadOf v (made p k (Axis n c x)) ≡ hatted n c x
@@ -225,7 +225,7 @@ module _ (p k : ℕ) (v : View) where
       v .converts && isHat n ≡ true →
       filteredOf true v (made p k (Axis n c x)) ≡ joined (hatted n c x) (deadzonedOf v (jitteredOf v (hatted n c x .event)))
   unfolding filteredOf
-  hat-filtered n c x on = ap (λ (g : Gives). joined g (deadzonedOf v (jitteredOf v (g .event)))) (hat-given n c x on)
+  hat-filtered n c x on = ap (λ (g : WithQueued). joined g (deadzonedOf v (jitteredOf v (g .event)))) (hat-given n c x on)
 
   hat-axis :
       (n c : ℕ) (x : Float) (hat converts : Bool) → isHat n ≡ hat → v .converts ≡ converts → axisLane hat converts ≡ 2 → Hat (Axis n c x)
@@ -234,9 +234,9 @@ module _ (p k : ℕ) (v : View) where
       let to = sym (hat-turned n c x en) in
       let is = hat-passes (eq x one32) (eq x minusOne32) (v .positive) (v .negative) (made p k (Axis n c x)) (plus n) (minus n) in
       record {
-        event = ap (λ (f : Filtered). f .gives .event) from ∙ is .0 ∙ ap (λ (g : Gives). g .event) to;
+        event = ap (λ (f : Filtered). f .gives .event) from ∙ is .0 ∙ ap (λ (g : WithQueued). g .event) to;
         flags = ap (λ (f : Filtered). f .flags) from ∙ is .1;
-        queued = ap (λ (f : Filtered). f .gives .queued) from ∙ is .2 ∙ ap (λ (g : Gives). g .queued) to;
+        queued = ap (λ (f : Filtered). f .gives .queued) from ∙ is .2 ∙ ap (λ (g : WithQueued). g .queued) to;
       }
   hat-axis n c x true false en ec h = absurd (omega arith)
   hat-axis n c x false converts en ec h = absurd (omega arith)

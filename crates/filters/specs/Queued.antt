@@ -14,7 +14,7 @@ use Rattle.rules.specs.declared.Event.{Event}
 use Rattle.rules.specs.declared.EventType.{EventType}
 use Rattle.rules.specs.declared.EventType.the-variants.{Pressed, Released, Repeated, Changed, Axis, Connected, Disconnected, Dropped}
 use Rattle.rules.specs.declared.View.{View}
-use Rattle.rules.specs.Events.{Gives, alone, with}
+use Rattle.rules.specs.Events.{WithQueued, alone, with}
 use Rattle.rules.specs.Filters.{Direction, presses, releases, reads, hatBy, hatGives, dpadType, dpadOf}
 use Rattle.filters.specs.Converted.{plus, minus}
 
@@ -80,7 +80,7 @@ gives-queued : (past : Event) (v : View) (e : Event) (n : ℕ) (x : Float) (at :
 unfolding hatGives
 gives-queued past v e n x at h = hat-queued past (eq x one32) (eq x minusOne32) (v .positive) (v .negative) e (plus n) (minus n) at h
 
-either-queued : (past : Event) (on : Bool) (g : Gives) (e u : Event) (at : ℕ) → (at < length (g .queued) → u ≡ getD (g .queued) at past) → at < length (cond on g (alone e) .queued) → u ≡ getD (cond on g (alone e) .queued) at past
+either-queued : (past : Event) (on : Bool) (g : WithQueued) (e u : Event) (at : ℕ) → (at < length (g .queued) → u ≡ getD (g .queued) at past) → at < length (cond on g (alone e) .queued) → u ≡ getD (cond on g (alone e) .queued) at past
 either-queued past true g e u at is h = is h
 either-queued past false g e u at is h = absurd (omega arith)
 

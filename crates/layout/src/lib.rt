@@ -151,7 +151,7 @@ fn one_if(b: bool) -> u32
 // ---- a pad's 52 places
 
 // The 52 rows of a good sheet: its elements in code order, the unlisted directions among them.
-pub fn lay(s: &[u8]) -> [Row; 52]
+pub fn rows_of(s: &[u8]) -> [Row; 52]
     requires { ⌜ sheetRefusal (now s) ≡ 0 ⌝ }
     ensures { λ r. ⌜ r ≡ rowsOf (now (s .entry)) (countOf (now (s .entry))) ⌝ }
 {

@@ -131,7 +131,7 @@ with e t = record { pad = e .pad; time = e .time; event = t }
 
 -- ---- an event and what is queued behind it, in order
 
-pub record Gives : Type 0 where
+pub record WithQueued : Type 0 where
   pub event : Event
   pub queued : List Event
 
@@ -139,11 +139,11 @@ pub record Gives : Type 0 where
 abbrev pub eventIf : Bool → Event → List Event
 eventIf there e = cond there (e ∷ []) []
 
-abbrev pub alone : Event → Gives
+abbrev pub alone : Event → WithQueued
 alone e = record { event = e; queued = [] }
 
-abbrev pub followed : Event → Event → Gives
+abbrev pub followed : Event → Event → WithQueued
 followed e a = record { event = e; queued = a ∷ [] }
 
-abbrev pub followedByThree : Event → Event → Event → Event → Gives
+abbrev pub followedByThree : Event → Event → Event → Event → WithQueued
 followedByThree e a b c = record { event = e; queued = a ∷ b ∷ c ∷ [] }

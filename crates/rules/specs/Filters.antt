@@ -15,7 +15,7 @@ use Rattle.rules.specs.declared.View.{View}
 use Rattle.rules.specs.declared.Flags.{Flags}
 use Rattle.rules.specs.declared.Zoned.{Zoned}
 use Rattle.rules.specs.Names.{isHat, positiveName, negativeName, positiveCode, negativeCode, partnerOf}
-use Rattle.rules.specs.Events.{Gives, eventIf, alone, followed, followedByThree, with, dropped, isDropped}
+use Rattle.rules.specs.Events.{WithQueued, eventIf, alone, followed, followedByThree, with, dropped, isDropped}
 
 -- ---- dpad
 
@@ -35,7 +35,7 @@ reads d v = Changed (d .name) (d .code) v
 
 -- "Only exactly 1.0 and -1.0 press." The four tests: the value is 1.0, it is -1.0, the positive direction is pressed, the negative one is.
 -- An opposite that is still pressed is released before the new direction is pressed; in the middle both are released.
-unfoldable pub hatBy : Bool → Bool → Bool → Bool → Event → Direction → Direction → Gives
+unfoldable pub hatBy : Bool → Bool → Bool → Bool → Event → Direction → Direction → WithQueued
 hatBy true m p false e plus minus = followed (with e (presses plus)) (with e (reads plus one32))
 hatBy true m p true e plus minus =
     followedByThree (with e (releases minus)) (with e (reads plus one32)) (with e (presses plus)) (with e (reads minus zero32))
@@ -49,13 +49,13 @@ hatBy false false true true e plus minus =
     followedByThree (with e (releases minus)) (with e (reads plus zero32)) (with e (releases plus)) (with e (reads minus zero32))
 
 -- Right and Left for DPadX, Up and Down for DPadY
-unfoldable pub hatGives : View → Event → ℕ → Float → Gives
+unfoldable pub hatGives : View → Event → ℕ → Float → WithQueued
 unfolding hatBy positiveName negativeName positiveCode negativeCode
 hatGives v e n x =
     hatBy (eq x one32) (eq x minusOne32) (v .positive) (v .negative) e (record { name = positiveName n; code = positiveCode n })
     (record { name = negativeName n; code = negativeCode n })
 
-abbrev pub dpadType : EventType → View → Event → Gives
+abbrev pub dpadType : EventType → View → Event → WithQueued
 dpadType (Axis n c x) v e = cond (v .converts && isHat n) (hatGives v e n x) (alone e)
 dpadType (Pressed n c) v e = alone e
 dpadType (Released n c) v e = alone e
@@ -65,7 +65,7 @@ dpadType Connected v e = alone e
 dpadType Disconnected v e = alone e
 dpadType Dropped v e = alone e
 
-unfoldable pub dpadOf : View → Event → Gives
+unfoldable pub dpadOf : View → Event → WithQueued
 unfolding hatGives isHat
 dpadOf v e = dpadType (e .event) v e
 
@@ -147,11 +147,11 @@ deadzonedOf v e = deadzoneType (e .event) v e
 
 -- what the filters make of an event: the event or Dropped, the events to queue, and the two flags after
 pub record Filtered : Type 0 where
-  pub gives : Gives
+  pub gives : WithQueued
   pub flags : Flags
 
 -- what dpad queued, then the clearing event
-unfoldable pub joined : Gives → Zoned → Filtered
+unfoldable pub joined : WithQueued → Zoned → Filtered
 joined g z = record { gives = record { event = z .event; queued = g .queued ++ eventIf (z .clears) (z .clearing) }; flags = z .flags }
 
 -- with the filters off an event passes as it is

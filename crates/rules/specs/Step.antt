@@ -18,7 +18,7 @@ use Rattle.rules.specs.Names.{placesPerPad, flagsPerPad, partnerOf, queu
 use Rattle.rules.specs.Forms.{readRecord, kindConnected, kindDisconnected}
 use Rattle.rules.specs.Refusals.{recordRefusal}
 use Rattle.rules.specs.Places.{placeOf, presentNames, clearedOf}
-use Rattle.rules.specs.Events.{Gives, eventIf, nameOf, codeOf}
+use Rattle.rules.specs.Events.{WithQueued, eventIf, nameOf, codeOf}
 use Rattle.rules.specs.Dispatch.{dispatchOf, single}
 use Rattle.rules.specs.Filters.{Filtered, filteredOf}
 use Rattle.rules.specs.State.{buttonAfter, axisAfter, writesButton, writesAxis}
@@ -90,7 +90,7 @@ markedOf h r =
 
 -- ---- what waits behind the event: the record's own, then the filters'
 
-unfoldable pub pushesOf : Dispatched → Gives → List Event
+unfoldable pub pushesOf : Dispatched → WithQueued → List Event
 pushesOf d g = eventIf (d .follows) (d .next) ++ g .queued
 
 unfoldable pub flagsSet : List Bool → ℕ → ℕ → Flags → List Bool

@@ -21,7 +21,7 @@ use Rattle.rules.specs.declared.RawRecord.{RawRecord}
 use Rattle.rules.specs.declared.Element.{Element}
 use Rattle.rules.specs.declared.Dispatched.{Dispatched}
 use Rattle.rules.specs.Names.{isHat, isAxis, isButton, partnerOf, positiveName, negativeName, positiveCode, negativeCode, leftStickX, leftStickY, rightStickX, rightStickY, dpadX, dpadY}
-use Rattle.rules.specs.Events.{Gives, eventIf, alone, dropped}
+use Rattle.rules.specs.Events.{WithQueued, eventIf, alone, dropped}
 use Rattle.rules.specs.Filters.{Direction, hatBy, hatGives, dpadType, dpadOf, jitteredOf, deadzonedOf, clearsPartner, stickZoned, buttonZoned, shrunk, joined, filteredOf}
 use Rattle.rules.specs.Dispatch.{Move, pressing, moving, joining, leaving, moveOf, axisName, pressGives, triggerBy, triggerGives, moveGives, dispatchBy, dispatchOf}
 use Rattle.rules.specs.Step.{pushesOf}
@@ -103,7 +103,7 @@ partner-hat n =
     by false false false false false false ea eb ec ed ex ey = rw (ea, eb, ec, ed, ex, ey)
 
 -- what waits behind an event once the filters that follow the dpad are through
-abbrev behind : View → Gives → List Event
+abbrev behind : View → WithQueued → List Event
 behind v g = joined g (deadzonedOf v (jitteredOf v (g .event))) .gives .queued
 
 -- what the dpad makes of a hat's axis event weighs at most 3, and the other filters add nothing

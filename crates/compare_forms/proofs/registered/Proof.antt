@@ -22,8 +22,8 @@ sheet-refusal-requires c κs = search needs
 returns-2 : tie.Need-returns-2 Inv-loop μ-loop
 returns-2 c = search needs
 
-lay-requires : tie.Need-lay-requires Inv-loop μ-loop
-lay-requires c κs = search needs
+rows-of-requires : tie.Need-rows-of-requires Inv-loop μ-loop
+rows-of-requires c κs = search needs
 
 cast-start : tie.Need-cast-start Inv-loop μ-loop
 cast-start c = search needs
@@ -81,7 +81,7 @@ registered-spec =
     returns
     sheet-refusal-requires
     returns-2
-    lay-requires
+    rows-of-requires
     cast-start
     mul-start
     loop-holds

@@ -13,7 +13,7 @@ use Rattle.rules.specs.declared.View.{View}
 use Rattle.rules.specs.declared.Flags.{Flags}
 use Rattle.rules.specs.declared.Partner.{Partner}
 use Rattle.rules.specs.Names.{codeUp, codeDown, codeLeft, codeRight, dpadUp, dpadDown, dpadLeft, dpadRight, dpadX, dpadY, leftStickX, leftStickY}
-use Rattle.rules.specs.Events.{Gives}
+use Rattle.rules.specs.Events.{WithQueued}
 use Rattle.rules.specs.Filters.{Filtered, dpadOf, jitteredOf, filteredOf, keptOf}
 use Rattle.rules.specs.Examples.Table.{_is_, Right, event, half32, threeQuarters32}
 
@@ -74,7 +74,7 @@ deadView dead own partner flags =
     }
 
 -- an event and what is queued behind it
-sent : Gives → List Event
+sent : WithQueued → List Event
 sent g = g .event ∷ g .queued
 
 events : List EventType → List Event

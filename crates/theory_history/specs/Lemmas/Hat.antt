@@ -8,7 +8,7 @@ use lib.Ieee.{Float}
 use Rattle.rules.specs.declared.Event.{Event}
 use Rattle.rules.specs.declared.EventType.the-variants.{Axis}
 use Rattle.rules.specs.Places.{placeOf}
-use Rattle.rules.specs.Events.{Gives, codeOf, dropped}
+use Rattle.rules.specs.Events.{WithQueued, codeOf, dropped}
 use Rattle.rules.specs.State.{writesAxisType}
 use Rattle.rules.specs.Dispatch.{amount}
 use Rattle.rules.specs.Filters.{hatBy}
@@ -24,7 +24,7 @@ module _ (s : Sheet) (pad time n c : ℕ) (z : Float) (pn pc mn mc : ℕ) where
   e = ev pad time (Axis n c z)
 
   -- o: the value is 1.0; m: it is -1.0; a and b: what the positive and the negative direction read
-  abbrev by : Bool → Bool → Bool → Bool → Gives
+  abbrev by : Bool → Bool → Bool → Bool → WithQueued
   by o m a b = hatBy o m a b e (record { name = pn; code = pc }) (record { name = mn; code = mc })
 
   -- where an event of a direction is of a place

@@ -20,7 +20,7 @@ use Rattle.rules.specs.declared.Dispatched.{Dispatched}
 use Rattle.rules.specs.Names.{nowhere, noName, placesPerPad, isHat, positiveCode, negativeCode, positiveName, negativeName}
 use Rattle.rules.specs.Forms.{kindPressed, kindAxis}
 use Rattle.rules.specs.Places.{placeOf}
-use Rattle.rules.specs.Events.{Gives, nameOf}
+use Rattle.rules.specs.Events.{WithQueued, nameOf}
 use Rattle.rules.specs.State.{readPressed}
 use Rattle.rules.specs.Dispatch.{pressing, moving, joining, leaving, moveOf, axisName, from, single, pressGives, moveGives}
 use Rattle.rules.specs.Filters.{hatBy, hatGives}
@@ -136,7 +136,7 @@ module _ (h : Hub) (w : Ready h) (desk : Desk h) (sound : Sound h) (p n : ℕ) (
         ap (λ (c : Bool). c && isHat n) (sees h r w desk e .converts) ∙ (ap (λ (q : ℕ). getD (h .converts) q false && isHat n) (m .pad) ∙ hat)
 
     -- the conversion, by what the two directions read
-    abbrev made : Gives
+    abbrev made : WithQueued
     made =
         hatBy (eq to one32) (eq to minusOne32) (see e .positive) (see e .negative) e (record { name = positiveName n; code = positiveCode n })
         (record { name = negativeName n; code = negativeCode n })

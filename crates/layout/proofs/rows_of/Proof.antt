@@ -1,4 +1,4 @@
--- `layout::lay` meets its contract. The invariant: the places laid and those left to lay are the whole; the counts stay small.
+-- `layout::rows_of` meets its contract. The invariant: the places laid and those left to lay are the whole; the counts stay small.
 use Prim.Native.Nat.{_≤_, _-_}
 use mathlib.Core.List.{_++_}
 use mathlib.Core.Path.{_≡_, refl, _∙_, ap}
@@ -10,8 +10,8 @@ use Rattle.rules.specs.Sheets.{countOf}
 use Rattle.rules.specs.Places.{oneIf, rowsFrom, rowsOf}
 use Rattle.layout.specs.Good.{good}
 use Rattle.layout.specs.Rows.{one-if-small, laid-step, laid-all}
-use Rattle.layout.proofs.lay.Statement.{statement}
-use Rattle.layout.proofs.lay.Tie as tie
+use Rattle.layout.proofs.rows_of.Statement.{statement}
+use Rattle.layout.proofs.rows_of.Tie as tie
 
 abbrev Inv-loop : tie.InvT-loop
 Inv-loop s n rows₀ i₀ d₀ last₀ k₀ rows i d last k =
@@ -90,8 +90,8 @@ returns : tie.Need-returns Inv-loop μ-loop
 unfolding countOf
 returns c = laid-all _ _ _ _ _ _ _ (c .loop-test .left) (c .before .loop .inv .0) ∙ c .before .loop .inv .4
 
-pub lay-spec : {M : Type 1} → statement M
-lay-spec =
+pub rows-of-spec : {M : Type 1} → statement M
+rows-of-spec =
     tie.close
     (tie.spec
     Inv-loop
