@@ -1,10 +1,12 @@
 // What a raw record gives: gilrs's `next_event_priv`, on the record, the element's present name, what the hub keeps of it, whether its code reads
 // pressed, and the hub's settings.
 ghost use mathlib.Core.Path.{_≡_};
-ghost use mathlib.Core.Bool.{true, not, _&&_};
+ghost use mathlib.Core.Bool.{true, not, _&&_, _||_};
+ghost use lib.Dec.{eqb};
 ghost use lib.Ieee.{le};
 ghost use Rattle.numbers.specs.Constants.{withinOf};
 ghost use Rattle.rules.specs.Names.{isY};
+ghost use Rattle.rules.specs.Forms.{kindPressed, kindReleased};
 ghost use Rattle.rules.specs.Dispatch as law;
 use rules::Dispatched;
 use rules::Element;
@@ -181,6 +183,13 @@ fn moved(
 
 // ---- every kind
 
+// A press or a release.
+fn is_press(kind: u8) -> bool
+    ensures { λ r. ⌜ r ≡ (eqb kind kindPressed || eqb kind kindReleased) ⌝ }
+{
+    kind == PRESSED || kind == RELEASED
+}
+
 // What a taken record gives: gilrs's `next_event_priv`, with the value scaled and a trigger's press or release told by the thresholds.
 pub fn dispatch(
     r: RawRecord,
@@ -195,14 +204,12 @@ pub fn dispatch(
     ensures { λ d. ⌜ d ≡ law.dispatchOf r name element held pressed released reversed ⌝ }
 {
     let kind = r.kind;
-    if kind == PRESSED {
-        return press(r, name, true);
-    }
-    if kind == RELEASED {
-        return press(r, name, false);
-    }
+    // a press and a release are one case, so that the machine tests the kind and jumps by no table
     if kind == AXIS {
         return moved(r, name, element, held, pressed, released, reversed);
+    }
+    if is_press(kind) {
+        return press(r, name, kind == PRESSED);
     }
     if kind == CONNECTED {
         return single(from(r, EventType::Connected));

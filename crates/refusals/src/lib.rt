@@ -5,8 +5,8 @@ ghost use Rattle.rules.specs.Refusals.{inUnit, thresholdsRefusal, isRegistered,
 ghost use Rattle.rules.specs.Refusals.{codeRefusal, formRefusal, insertRefusal, pumpRefusal, repeatRefusal};
 ghost use Rattle.rules.specs.Refusals.{buttonQueryRefusal, axisQueryRefusal, nameQueryRefusal, unlessFits};
 ghost use Rattle.rules.specs.Refusals as Refusals;
-ghost use mathlib.Core.Bool.{cond, _&&_, _||_};
-ghost use lib.Dec.{eqb};
+ghost use mathlib.Core.Bool.{true, cond, _&&_, _||_};
+ghost use lib.Dec.{eqb, ltb};
 use rules::ELEMENT_AXIS;
 use rules::ELEMENT_BUTTON;
 use rules::EVENT_AXIS;
@@ -129,10 +129,33 @@ pub fn fields_refusal(raw: RawRecord, pads: u8, kind: u8) -> u8
     )
 }
 
+// Whether an element's kind is the one that a record speaks of, where it speaks of one.
+fn element_fits(recordkind: u8, kind: u8) -> bool
+    ensures { λ r. ⌜ r ≡ (ltb 3 recordkind || eqb kind (cond (eqb recordkind 3) 2 1)) ⌝ }
+{
+    (KIND_AXIS < recordkind) | (kind == spoken(recordkind))
+}
+
+// Whether a record is well formed and not refused, as most are: one answer of all tests, none of which ends the others, in place of the first number of six.
+fn record_fits(l: NextRecord, pads: u8, kind: u8) -> bool
+    ensures { λ r. ⌜ (r ≡ true → recordRefusal l pads kind ≡ 0) ⌝ }
+{
+    let raw = l.raw;
+    l.fits
+        & (raw.pad < pads)
+        & (raw.pad < PADS)
+        & element_fits(raw.kind, kind)
+        & scale::within(raw.value)
+        & time_fits(raw.time)
+}
+
 // The refusal of the record that a step looks at: 8, then those of its fields.
 pub fn record_refusal(l: NextRecord, pads: u8, kind: u8) -> u8
     ensures { λ r. ⌜ r ≡ recordRefusal l pads kind ⌝ }
 {
+    if record_fits(l, pads, kind) {
+        return 0;
+    }
     let raw = l.raw;
     first(unless_fits(l.fits, 8), fields_refusal(raw, pads, kind))
 }
