@@ -6,6 +6,7 @@ ghost use mathlib.Core.Bool.{Bool};
 ghost use mathlib.Core.List.{List};
 ghost use Prim.Native.Nat.{ℕ};
 ghost use Rattle.rules.specs.Calls.{updateOf, insertOf};
+ghost use Rattle.pad.specs.Found.{Placed};
 ghost use Rattle.hub.specs.Lent.{listed, columns, hubOf, answered};
 ghost use Rattle.calls.specs.Judged.{updateForm, insertForm};
 use columns::Marks;
@@ -21,6 +22,17 @@ use rules::EventRead;
 use rules::MALFORMED;
 
 // ---- update: 8, 6, 9, 11, 12
+
+// Where an event's code stands: a form of a kind that carries no code may hold one all the same.
+fn event_place(codes: &[u32; 208], p: u8, code: u32, formcode: u32, place: usize) -> usize
+    requires { ⌜ Placed (now codes) p formcode place ⌝ }
+    ensures { λ r. ⌜ Placed (now (codes .entry)) p code r ⌝ }
+{
+    if code == formcode {
+        return place;
+    }
+    pad::place_of(codes, p, code)
+}
 
 // A form that is well made: refused, or done. The place of the form's code is the event's too, but for kinds 6 to 8, which carry no code.
 fn update_form(
@@ -45,8 +57,8 @@ fn update_form(
         return Answer::Refused(refusal);
     }
     let e = events::form_event(f);
+    let k = event_place(codes, e.pad, events::code_of(e), f.code, place);
     cells::settle(
-        codes,
         hasbutton,
         hasaxis,
         values,
@@ -55,9 +67,7 @@ fn update_form(
         true,
         e,
         head.counter,
-        f.pad,
-        f.code,
-        place,
+        k,
     );
     Answer::Done
 }

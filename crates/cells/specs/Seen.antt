@@ -7,14 +7,13 @@ use lib.ListN.{getD}
 use Rattle.rules.specs.declared.ButtonData.{ButtonData}
 use Rattle.rules.specs.declared.AxisData.{AxisData}
 use Rattle.rules.specs.State.{readPressed, readValue}
-use Rattle.rules.specs.Hub.{hatPlaceOf, pastButton, pastAxis}
+use Rattle.rules.specs.Hub.{pastButton, pastAxis}
 
 -- the value of a place: its axis record's, else its button record's
 abbrev pub storedAt : List Bool → List Bool → List ButtonData → List AxisData → ℕ → Float
 storedAt hasbutton hasaxis buttons axes k =
     readValue (getD hasaxis k false) (getD axes k pastAxis) (getD hasbutton k false) (getD buttons k pastButton)
 
--- whether a direction of a hat's axis is held
-abbrev pub heldAt : List ℕ → List Bool → List ButtonData → ℕ → ℕ → ℕ → Bool
-heldAt codes hasbutton buttons p n c =
-    readPressed (getD hasbutton (hatPlaceOf codes p n c) false) (getD buttons (hatPlaceOf codes p n c) pastButton)
+-- whether the button record of a place is pressed
+abbrev pub heldAt : List Bool → List ButtonData → ℕ → Bool
+heldAt hasbutton buttons k = readPressed (getD hasbutton k false) (getD buttons k pastButton)

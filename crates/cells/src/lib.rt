@@ -4,10 +4,7 @@ ghost use mathlib.Core.Path.{_≡_};
 ghost use Prim.Native.Nat.{_≤_};
 ghost use lib.ListN.{getD};
 ghost use Rattle.rules.specs.Names.{nowhere};
-ghost use Rattle.rules.specs.Places.{placeOf};
-ghost use Rattle.rules.specs.Events.{codeOf};
 ghost use Rattle.rules.specs.Hub.{pastElement, pastButton, pastAxis};
-ghost use Rattle.pad.specs.Found.{Placed};
 ghost use Rattle.gather.specs.EventPlaces.{viewBy};
 ghost use Rattle.columns.specs.Columns.{elementsOf, buttonsOf, axesOf};
 ghost use Rattle.cells.specs.Seen.{storedAt, heldAt};
@@ -64,30 +61,25 @@ pub fn value_in<'a>(
     )
 }
 
-// Whether the button record of a hat's direction is pressed; not where the name is no hat's or the code has no place.
+// Whether the button record of a place is pressed; not where none stands.
 pub fn held_in<'a>(
-    codes: &'a [u32; 208],
     hasbutton: &'a [bool; 208],
     values: &'a Values,
     times: &'a Times,
     marks: &'a Marks,
-    p: u8,
-    name: u8,
-    code: u32,
+    k: usize,
 ) -> bool
-    ensures { λ r. ⌜ r ≡ heldAt (now (codes .entry)) (now (hasbutton .entry)) (buttonsOf (now (values .entry)) (now (times .entry)) (now (marks .entry))) p name code ⌝ }
+    requires { ⌜ k ≤ nowhere ⌝ }
+    ensures { λ r. ⌜ r ≡ heldAt (now (hasbutton .entry)) (buttonsOf (now (values .entry)) (now (times .entry)) (now (marks .entry))) k ⌝ }
 {
-    let k = gather::hat_place(codes, p, name, code);
     state::read_pressed(
         pad::bool_at(hasbutton, k),
         columns::button_at(values, times, marks, k),
     )
 }
 
-// The state after a kept event: with updates on, the record that the event writes, and the mark that it stands. `last` is where the code of the event before
-// stands, which is most often the event's place too.
+// The state after a kept event whose code stands at k: with updates on, the record that the event writes, and the mark that it stands.
 pub fn settle(
-    codes: &[u32; 208],
     hasbutton: &mut [bool; 208],
     hasaxis: &mut [bool; 208],
     values: &mut Values,
@@ -96,19 +88,15 @@ pub fn settle(
     on: bool,
     e: Event,
     counter: u64,
-    lastpad: u8,
-    lastcode: u32,
-    last: usize,
+    k: usize,
 )
-    requires { ⌜ Placed (now codes) lastpad lastcode last ⌝ }
-    ensures { λ _. ⌜ Settled (now (hasbutton .entry)) (now (hasaxis .entry)) (now (values .entry)) (now (times .entry)) (now (marks .entry))
-        (placeOf (now (codes .entry)) (e .pad) (codeOf e)) on e counter
+    requires { ⌜ k ≤ nowhere ⌝ }
+    ensures { λ _. ⌜ Settled (now (hasbutton .entry)) (now (hasaxis .entry)) (now (values .entry)) (now (times .entry)) (now (marks .entry)) k on e counter
         (now (hasbutton .exit)) (now (hasaxis .exit)) (now (values .exit)) (now (times .exit)) (now (marks .exit)) ⌝ }
 {
     if !on {
         return;
     }
-    let k = gather::place_again(codes, e.pad, events::code_of(e), lastpad, lastcode, last);
     if state::writes_button(e) {
         let known = pad::bool_at(hasbutton, k);
         let b = columns::button_at(values, times, marks, k);

@@ -6,9 +6,8 @@ ghost use lib.ListN.{getD};
 ghost use Rattle.rules.specs.Names.{noName};
 ghost use Rattle.rules.specs.Places.{presentNames, namedOf};
 ghost use Rattle.rules.specs.Hub.{flagPlace};
-ghost use Rattle.pad.specs.Found.{Placed};
-ghost use Rattle.rules.specs.Hub.{hatPlaceOf, partnerPlaceOf, convertsIn};
-ghost use Rattle.gather.specs.EventPlaces.{FoundIs, EventPlacesAre, PlaceIs, placeMarksOf, viewBy};
+ghost use Rattle.rules.specs.Hub.{partnerPlaceOf, convertsIn};
+ghost use Rattle.gather.specs.EventPlaces.{foundAt, FoundIs, EventPlacesAre, PlaceIs, placeMarksOf, viewBy};
 use rules::AxisData;
 use rules::ButtonData;
 use rules::ELEMENT_AXIS;
@@ -49,7 +48,27 @@ pub fn present_name<'a>(
     }
 }
 
-// What stands at a record's code.
+// What stands at a place.
+fn found_at<'a>(
+    kinds: &'a [u8; 208],
+    names: &'a [u8; 208],
+    renames: &'a [u8; 208],
+    renamed: &'a [bool; 4],
+    hasbutton: &'a [bool; 208],
+    p: u8,
+    place: usize,
+) -> Found
+    ensures { λ r. ⌜ r ≡ foundAt (now (kinds .entry)) (now (names .entry)) (now (renames .entry)) (now (renamed .entry)) (now (hasbutton .entry)) p place ⌝ }
+{
+    Found {
+        place: place,
+        kind: pad::kind_at(kinds, place),
+        name: present_name(names, renames, renamed, p, place),
+        hasbutton: pad::bool_at(hasbutton, place),
+    }
+}
+
+// What stands at a record's code. A code that has no place is told first, so that no column makes its own test.
 pub fn find<'a>(
     codes: &'a [u32; 208],
     kinds: &'a [u8; 208],
@@ -63,12 +82,10 @@ pub fn find<'a>(
     ensures { λ r. ⌜ FoundIs (now (codes .entry)) (now (kinds .entry)) (now (names .entry)) (now (renames .entry)) (now (renamed .entry)) (now (hasbutton .entry)) p code r ⌝ }
 {
     let place = pad::place_of(codes, p, code);
-    Found {
-        place: place,
-        kind: pad::kind_at(kinds, place),
-        name: present_name(names, renames, renamed, p, place),
-        hasbutton: pad::bool_at(hasbutton, place),
+    if NOWHERE <= place {
+        return found_at(kinds, names, renames, renamed, hasbutton, p, NOWHERE);
     }
+    found_at(kinds, names, renames, renamed, hasbutton, p, place)
 }
 
 // ---- an event's places
@@ -92,17 +109,6 @@ pub fn place_marks<'a>(
         place: place,
         hasbutton: pad::bool_at(hasbutton, place),
         hasaxis: pad::bool_at(hasaxis, place),
-    }
-}
-
-// A direction's place, for the axis of a hat.
-pub fn hat_place(codes: &[u32; 208], p: u8, name: u8, code: u32) -> usize
-    ensures { λ r. ⌜ PlaceIs (hatPlaceOf (now (codes .entry)) p name code) r ⌝ }
-{
-    if names::is_hat(name) {
-        pad::place_of(codes, p, code)
-    } else {
-        NOWHERE
     }
 }
 
@@ -170,27 +176,6 @@ pub fn converts_now<'a>(
     } else {
         pad::pad_bool(converts, p)
     }
-}
-
-// The place of a code where one was looked up before: most often it is the same.
-pub fn place_again(
-    codes: &[u32; 208],
-    p: u8,
-    code: u32,
-    lastpad: u8,
-    lastcode: u32,
-    last: usize,
-) -> usize
-    requires { ⌜ Placed (now codes) lastpad lastcode last ⌝ }
-    ensures { λ r. ⌜ Placed (now (codes .entry)) p code r ⌝ }
-{
-    if p != lastpad {
-        return pad::place_of(codes, p, code);
-    }
-    if code != lastcode {
-        return pad::place_of(codes, p, code);
-    }
-    last
 }
 
 // ---- what the filters see

@@ -2,7 +2,7 @@
 -- and what each of them sees is that view, as far as it asks.
 use Prim.Native.Nat.{ℕ, _*_, _<_}
 use mathlib.Core.Path.{_≡_, refl, sym, _∙_, ap}
-use mathlib.Core.Bool.{Bool, false}
+use mathlib.Core.Bool.{Bool, true, false}
 use mathlib.Core.List.{List, []}
 use lib.ListN.{getD, set}
 use lib.Seq.{set-getD}
@@ -17,7 +17,7 @@ use Rattle.rules.specs.declared.Event.{Event}
 use Rattle.rules.specs.declared.Flags.{Flags}
 use Rattle.rules.specs.declared.Zoned.{Zoned}
 use Rattle.rules.specs.declared.View.{View}
-use Rattle.rules.specs.Names.{placesPerPad, flagsPerPad, partnerOf, positiveCode, negativeCode}
+use Rattle.rules.specs.Names.{placesPerPad, flagsPerPad, isHat, partnerOf, positiveCode, negativeCode}
 use Rattle.rules.specs.Places.{placeOf, clearedOf}
 use Rattle.rules.specs.Sheets.{elementAxis}
 use Rattle.rules.specs.Forms.{kindConnected, kindDisconnected}
@@ -103,14 +103,19 @@ unfolding viewOf viewAt valueAt
 value-seen m e ep = rw ep
 
 -- a hat that turns: whether its directions are held
+abbrev pub directedAt : List Bool → List ButtonData → ℕ → ℕ → View
+directedAt hasbutton buttons positive negative = directed (heldAt hasbutton buttons positive) (heldAt hasbutton buttons negative)
+
 abbrev pub hatView : List ℕ → List Bool → List ButtonData → Event → View
 hatView codes hasbutton buttons e =
-    directed (heldAt codes hasbutton buttons (e .pad) (nameOf e) (positiveCode (nameOf e)))
-    (heldAt codes hasbutton buttons (e .pad) (nameOf e) (negativeCode (nameOf e)))
+    directedAt hasbutton buttons (placeOf codes (e .pad) (positiveCode (nameOf e))) (placeOf codes (e .pad) (negativeCode (nameOf e)))
 
-pub hat-seen : (m : Hub) (e : Event) → hatView (m .codes) (m .hasbutton) (m .buttons) e ≡ directed (viewOf m e .positive) (viewOf m e .negative)
-unfolding viewOf viewAt pressedAt
-hat-seen m e = refl
+pub hat-seen :
+    (m : Hub) (e : Event) →
+    isHat (nameOf e) ≡ true →
+    hatView (m .codes) (m .hasbutton) (m .buttons) e ≡ directed (viewOf m e .positive) (viewOf m e .negative)
+unfolding viewOf viewAt hatPlaceOf pressedAt
+hat-seen m e hat = rw hat
 
 -- a stick: all but the directions, so it does not matter which pads convert
 abbrev pub stickIn : Hub → Event → ℕ → List Element → List ButtonData → List AxisData → Zoned

@@ -1,6 +1,6 @@
 -- What is left once a taken event is served: the event that the filters hand on, the flags, and the queue with what the record and the filters queue. The
 -- records, whose columns stand in the same arrays as the queue's, are as they were, so what is seen of them after the first push is what stood before it.
-use Prim.Native.Nat.{ℕ, _+_, _<_}
+use Prim.Native.Nat.{ℕ, _+_, _≤_, _<_}
 use mathlib.Core.Path.{_≡_, refl, sym, _∙_, ap, subst}
 use mathlib.Core.Bool.{Bool, true, false, cond}
 use mathlib.Core.List.{List, [], _∷_, _++_}
@@ -19,6 +19,7 @@ use Rattle.rules.specs.declared.Dispatched.{Dispatched}
 use Rattle.rules.specs.declared.Zoned.{Zoned}
 use Rattle.rules.specs.declared.Flags.{Flags}
 use Rattle.rules.specs.declared.View.{View}
+use Rattle.rules.specs.Names.{nowhere}
 use Rattle.rules.specs.Sheets.{elementAxis}
 use Rattle.rules.specs.Places.{placeOf}
 use Rattle.rules.specs.Events.{nameOf, codeOf, eventIf}
@@ -38,6 +39,7 @@ use Rattle.filters.specs.Lanes.{laneOf, zonedValue, undirected, stickZonedOf, c
 use Rattle.cells.specs.Seen.{storedAt}
 use Rattle.queueing.specs.Queued.{Pushed, pushed-none, pushed-then}
 use Rattle.passing.specs.declared.Served.{Served}
+use Rattle.passing.specs.Sent.{hat-named, turnedPlace}
 use Rattle.passing.specs.Passing.{seenOf, seen-same, same-flags, lane-is, value-seen, hatView, hat-seen, stickIn, stick-seen, view-is, flags-at}
 
 -- what is left of d, r being what is handed on, where v is the view of d's event: vs are values, ts times, bs the queue's bytes and cs its codes
@@ -57,6 +59,14 @@ pub record HandsOn
     Type 0 where
   pub event : r .event ≡ u
   pub queued : Pushed vs ts bs cs head waiting es vs' ts' bs' cs' (r .waiting)
+
+-- what a hat's event e that turns leaves: besides, the place of the direction whose event is handed on
+pub record TurnedIs
+    (codes : List ℕ) (e u : Event) (es : List Event) (head waiting : ℕ) (vs : List Float) (ts bs cs : List ℕ) (r : Served) (vs' : List Float) (ts' bs' cs' : List ℕ) :
+    Type 0 where
+  pub hands : HandsOn u es head waiting vs ts bs cs r vs' ts' bs' cs'
+  pub place : r .place ≡ turnedPlace codes e (r .event)
+  pub small : r .place ≤ nowhere
 
 -- what a stick's event leaves, z being what jitter and deadzone make of it
 pub record StickIs
@@ -79,20 +89,20 @@ hat-more v e x within done eu p =
 
 -- all of them are, as many as there are
 pub hat-left :
-    (e : Event) {v w : View} {g : Converted} {x : ℕ} {vs vs1 : List Float} {ts bs cs ts1 bs1 cs1 : List ℕ} {head waiting all : ℕ} →
+    (e : Event) {v w : View} {g : Converted} {x place : ℕ} {vs vs1 : List Float} {ts bs cs ts1 bs1 cs1 : List ℕ} {head waiting all : ℕ} →
     v ≡ w →
     g ≡ counted (dpadOf v e) →
     x ≡ g .count →
     Pushed vs ts bs cs head waiting (take x (dpadOf v e .queued)) vs1 ts1 bs1 cs1 all →
-    HandsOn (dpadOf w e .event) (dpadOf w e .queued) head waiting vs ts bs cs (record { event = g .event; waiting = all }) vs1 ts1 bs1 cs1
-hat-left e {v} {w} {g} {x} ev eg ex p =
+    HandsOn (dpadOf w e .event) (dpadOf w e .queued) head waiting vs ts bs cs (record { event = g .event; waiting = all; place = place }) vs1 ts1 bs1 cs1
+hat-left e {v} {w} {g} {x} {place} ev eg ex p =
     let all : x ≡ length (dpadOf v e .queued) = ex ∙ ap (λ (r : Converted). r .count) eg in
     record { event = rw (eg, ev); queued = rw (← ev, ← take-all x (dpadOf v e .queued) (omega (arith, all))) p }
 
 -- what a stick's event leaves, from what is gathered of a hub and made of it
 pub stick-left :
     (h : Hub) (e : Event) (k : ℕ) {name : ℕ} {s : EventPlaces} {v : View} {z : Zoned} {flagged both : List Bool} {vs vs1 : List Float}
-    {ts bs cs ts1 bs1 cs1 : List ℕ} {head waiting all : ℕ} →
+    {ts bs cs ts1 bs1 cs1 : List ℕ} {head waiting all place : ℕ} →
     name ≡ nameOf e →
     EventPlacesAre (h .codes) (h .kinds) (h .names) (h .renames) (h .renamed) (h .hasbutton) (h .hasaxis) (h .flags) (e .pad) name k s →
     v
@@ -102,7 +112,7 @@ pub stick-left :
     flagged ≡ set (h .flags) (s .flag) (z .flags .own) →
     both ≡ set flagged (s .other) (z .flags .partner) →
     Pushed vs ts bs cs head waiting (clearingOf z) vs1 ts1 bs1 cs1 all →
-    StickIs (stickZonedOf (viewAt h (e .pad) (nameOf e) k) e) e (h .flags) head waiting vs ts bs cs (record { event = z .event; waiting = all }) both vs1 ts1 bs1 cs1
+    StickIs (stickZonedOf (viewAt h (e .pad) (nameOf e) k) e) e (h .flags) head waiting vs ts bs cs (record { event = z .event; waiting = all; place = place }) both vs1 ts1 bs1 cs1
 stick-left h e k {name} {s} {v} {z} en seen ev ez e1 e2 p =
     let sees : v ≡ undirected (viewAt h (e .pad) (nameOf e) k) =
     ev ∙ view-is h (e .pad) name k s seen ∙ ap (λ (n : ℕ). undirected (viewAt h (e .pad) n k)) en in
@@ -133,11 +143,11 @@ module _ (on : Bool) (m : Hub) (d : Dispatched) {vs vs1 vs2 : List Float} {ts bs
 
 -- nothing is queued, and the flags stay
 pub serves-quiet :
-    (on : Bool) (m : Hub) (d : Dispatched) {vs vs1 : List Float} {ts bs cs ts1 bs1 cs1 : List ℕ} {head waiting more : ℕ} {u z : Event} →
+    (on : Bool) (m : Hub) (d : Dispatched) {vs vs1 : List Float} {ts bs cs ts1 bs1 cs1 : List ℕ} {head waiting more place : ℕ} {u z : Event} →
     Pushed vs ts bs cs head waiting (eventIf (d .follows) (d .next)) vs1 ts1 bs1 cs1 more →
     Sends on (viewOf m (d .event)) (d .event) u (viewOf m (d .event) .flags) [] →
     z ≡ u →
-    ServedIs on (viewOf m (d .event)) d (m .flags) head waiting vs ts bs cs (record { event = z; waiting = more }) (m .flags) vs1 ts1 bs1 cs1
+    ServedIs on (viewOf m (d .event)) d (m .flags) head waiting vs ts bs cs (record { event = z; waiting = more; place = place }) (m .flags) vs1 ts1 bs1 cs1
 serves-quiet on m d first sends is = serves on m d first sends (record { event = is; queued = pushed-none }) (sym (same-flags m (d .event)))
 
 -- ---- by the lane: what was seen after the first push is what stood before it
@@ -151,7 +161,7 @@ module _ (on : Bool) (m : Hub) (d : Dispatched) (ms : List Bool) {vs vs1 : List 
     lane
     ≡ laneOf on (convertsIn (m .renamed) (m .converts) (m .newconverts) (d .event .pad)) (eqb (getD (m .kinds) place 0) elementAxis) (d .event)) where
   pub serves-none :
-      lane ≡ 0 → ServedIs on (viewOf m (d .event)) d (m .flags) head waiting vs ts bs cs (record { event = d .event; waiting = more }) (m .flags) vs1 ts1 bs1 cs1
+      lane ≡ 0 → ServedIs on (viewOf m (d .event)) d (m .flags) head waiting vs ts bs cs (record { event = d .event; waiting = more; place = place }) (m .flags) vs1 ts1 bs1 cs1
   serves-none is = serves-quiet on m d first (none-sends on (viewOf m (d .event)) (d .event) (lane-is on m (d .event) 0 ep el is)) refl
 
   pub serves-value :
@@ -160,7 +170,7 @@ module _ (on : Bool) (m : Hub) (d : Dispatched) (ms : List Bool) {vs vs1 : List 
       z
       ≡ zonedValue (storedAt (m .hasbutton) (m .hasaxis) (buttonsOf vs1 ts1 ms) (axesOf vs1 ts1) place) (getD (elementsOf vs1 ms) place pastElement .threshold)
       (d .event) →
-      ServedIs on (viewOf m (d .event)) d (m .flags) head waiting vs ts bs cs (record { event = z; waiting = more }) (m .flags) vs1 ts1 bs1 cs1
+      ServedIs on (viewOf m (d .event)) d (m .flags) head waiting vs ts bs cs (record { event = z; waiting = more; place = place }) (m .flags) vs1 ts1 bs1 cs1
   serves-value is ez =
       serves-quiet on m d first (value-sends on (viewOf m (d .event)) (d .event) (lane-is on m (d .event) 1 ep el is))
       (ez ∙ rw (first .elements ms, first .buttons ms, first .axes, ← eelements, ← ebuttons, ← eaxes) (value-seen m (d .event) ep))
@@ -173,7 +183,8 @@ module _ (on : Bool) (m : Hub) (d : Dispatched) (ms : List Bool) {vs vs1 : List 
       ServedIs on (viewOf m (d .event)) d (m .flags) head waiting vs ts bs cs r (m .flags) vs2 ts2 bs2 cs2
   serves-hat is hands =
       serves on m d first (hat-sends on (viewOf m (d .event)) (d .event) (lane-is on m (d .event) 2 ep el is))
-      (rw (← hat-seen m (d .event), ebuttons, ← first .buttons ms) hands) (sym (same-flags m (d .event)))
+      (rw (← hat-seen m (d .event) (hat-named on (viewOf m (d .event) .converts) (viewOf m (d .event) .dead) (d .event) (lane-is on m (d .event) 2 ep el is)), ebuttons, ← first .buttons ms) hands)
+      (sym (same-flags m (d .event)))
 
   pub serves-stick :
       {r : Served} {flags' : List Bool} {vs2 : List Float} {ts2 bs2 cs2 : List ℕ} →

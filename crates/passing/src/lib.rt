@@ -2,6 +2,7 @@
 // read. Each answer is the law book's, as if all had been gathered. The gates stand inside functions that are lent the arrays, and not in the pump's loop, where
 // a branch that falls through would cost a join of all that is lent.
 ghost use mathlib.Core.Path.{_≡_};
+ghost use mathlib.Core.Bool.{cond};
 ghost use mathlib.Core.List.{[]};
 ghost use Prim.Native.Nat.{_≤_};
 ghost use lib.ListN.{getD};
@@ -17,8 +18,9 @@ ghost use Rattle.cells.specs.Seen.{storedAt};
 ghost use Rattle.filters.specs.Lanes.{laneOf, zonedValue, stickZonedOf};
 ghost use Rattle.queueing.specs.Queued.{Pushed};
 ghost use Rattle.taking.specs.Taking.{givesOf};
-ghost use Rattle.passing.specs.Passing.{seenHub, hatView, MarkedIs};
-ghost use Rattle.passing.specs.Served.{HandsOn, StickIs, ServedIs};
+ghost use Rattle.passing.specs.Passing.{seenHub, directedAt, hatView, MarkedIs};
+ghost use Rattle.passing.specs.Sent.{SentIs};
+ghost use Rattle.passing.specs.Served.{TurnedIs, StickIs, ServedIs};
 use columns::Marks;
 use columns::QueueBytes;
 use columns::QueueCodes;
@@ -140,10 +142,11 @@ fn push_next(
     t.waiting
 }
 
-// The event that is handed on, or Dropped, and how many wait behind it.
+// The event that is handed on, or Dropped; how many wait behind it; and the place of its code, where it is not dropped.
 pub struct Served {
     pub event: Event,
     pub waiting: u8,
+    pub place: usize,
 }
 
 // A button's value through the deadzone.
@@ -166,24 +169,22 @@ fn value_sent<'a>(
     filters::zoned_value(own, element.threshold, e)
 }
 
-// What a hat that turns sees: whether its two directions are held.
+// What a hat that turns sees: whether its two directions, which stand at these places, are held.
 fn hat_view<'a>(
-    codes: &'a [u32; 208],
     hasbutton: &'a [bool; 208],
     values: &'a Values,
     times: &'a Times,
     marks: &'a Marks,
-    e: Event,
+    positive: usize,
+    negative: usize,
 ) -> View
-    ensures { λ r. ⌜ r ≡ hatView (now (codes .entry)) (now (hasbutton .entry)) (buttonsOf (now (values .entry)) (now (times .entry)) (now (marks .entry))) e ⌝ }
+    requires { ⌜ (positive ≤ nowhere) × (negative ≤ nowhere) ⌝ }
+    ensures { λ r. ⌜ r ≡ directedAt (now (hasbutton .entry)) (buttonsOf (now (values .entry)) (now (times .entry)) (now (marks .entry))) positive negative ⌝ }
 {
-    let n = events::name_of(e);
-    let plus = names::positive_code(n);
-    let minus = names::negative_code(n);
     View {
         converts: true,
-        positive: cells::held_in(codes, hasbutton, values, times, marks, e.pad, n, plus),
-        negative: cells::held_in(codes, hasbutton, values, times, marks, e.pad, n, minus),
+        positive: cells::held_in(hasbutton, values, times, marks, positive),
+        negative: cells::held_in(hasbutton, values, times, marks, negative),
         stored: false,
         stick: 0.0,
         dead: false,
@@ -201,6 +202,13 @@ fn hat_view<'a>(
     }
 }
 
+// One place or the other.
+fn place_if(test: bool, place: usize, other: usize) -> usize
+    ensures { λ r. ⌜ r ≡ cond test place other ⌝ }
+{
+    if test { place } else { other }
+}
+
 // A hat's axis turned into presses and releases of its directions, which are pushed.
 fn turn_hat<'a>(
     codes: &'a [u32; 208],
@@ -214,12 +222,16 @@ fn turn_hat<'a>(
     waiting: u8,
     e: Event,
 ) -> Served
-    ensures { λ r. ⌜ HandsOn (dpadOf (hatView (now (codes .entry)) (now (hasbutton .entry)) (buttonsOf (now (values .entry)) (now (times .entry)) (now (marks .entry))) e) e .event)
+    ensures { λ r. ⌜ TurnedIs (now (codes .entry)) e (dpadOf (hatView (now (codes .entry)) (now (hasbutton .entry)) (buttonsOf (now (values .entry)) (now (times .entry)) (now (marks .entry))) e) e .event)
         (dpadOf (hatView (now (codes .entry)) (now (hasbutton .entry)) (buttonsOf (now (values .entry)) (now (times .entry)) (now (marks .entry))) e) e .queued)
         head waiting (now (values .entry)) (now (times .entry)) (now (queuebytes .entry)) (now (queuecodes .entry)) r
         (now (values .exit)) (now (times .exit)) (now (queuebytes .exit)) (now (queuecodes .exit)) ⌝ }
 {
-    let v = hat_view(codes, hasbutton, values, times, marks, e);
+    let n = events::name_of(e);
+    let plus = names::positive_code(n);
+    let positive = pad::place_of(codes, e.pad, plus);
+    let negative = pad::place_of(codes, e.pad, names::negative_code(n));
+    let v = hat_view(hasbutton, values, times, marks, positive, negative);
     let g = filters::dpad::dpad(v, e);
     let count = choices::wide(g.count);
     let mut all = waiting;
@@ -233,6 +245,7 @@ fn turn_hat<'a>(
     Served {
         event: z,
         waiting: all,
+        place: place_if(events::code_of(z) == plus, positive, negative),
     }
 }
 
@@ -257,12 +270,12 @@ fn pass_stick<'a>(
     place: usize,
 ) -> Served
     requires { ⌜ place ≤ nowhere ⌝ }
-    ensures { λ r. ⌜ StickIs (stickZonedOf (viewAt (seenHub (now (codes .entry)) (now (kinds .entry)) (now (names .entry)) (now (renames .entry))
+    ensures { λ r. ⌜ (r .place ≡ place) × (StickIs (stickZonedOf (viewAt (seenHub (now (codes .entry)) (now (kinds .entry)) (now (names .entry)) (now (renames .entry))
         (now (renamed .entry)) [] [] (now (hasbutton .entry)) (now (hasaxis .entry)) (elementsOf (now (values .entry)) (now (marks .entry)))
         (buttonsOf (now (values .entry)) (now (times .entry)) (now (marks .entry))) (axesOf (now (values .entry)) (now (times .entry))) (now (flags .entry)))
         (e .pad) (nameOf e) place) e) e (now (flags .entry)) head waiting
         (now (values .entry)) (now (times .entry)) (now (queuebytes .entry)) (now (queuecodes .entry)) r (now (flags .exit))
-        (now (values .exit)) (now (times .exit)) (now (queuebytes .exit)) (now (queuecodes .exit)) ⌝ }
+        (now (values .exit)) (now (times .exit)) (now (queuebytes .exit)) (now (queuecodes .exit))) ⌝ }
 {
     let s = gather::stick_places(
         codes,
@@ -295,11 +308,13 @@ fn pass_stick<'a>(
                 waiting,
                 f.clearing,
             ),
+            place: place,
         };
     }
     Served {
         event: z,
         waiting: waiting,
+        place: place,
     }
 }
 
@@ -325,12 +340,12 @@ pub fn serve<'a>(
     t: Taken,
 ) -> Served
     requires { ⌜ Placed (now codes) (t .event .pad) (codeOf (t .event)) (t .place) ⌝ }
-    ensures { λ r. ⌜ ServedIs on (viewOf (seenHub (now (codes .entry)) (now (kinds .entry)) (now (names .entry)) (now (renames .entry))
+    ensures { λ r. ⌜ (SentIs (now (codes .entry)) on r) × (ServedIs on (viewOf (seenHub (now (codes .entry)) (now (kinds .entry)) (now (names .entry)) (now (renames .entry))
         (now (renamed .entry)) (now (converts .entry)) (now (newconverts .entry)) (now (hasbutton .entry)) (now (hasaxis .entry))
         (elementsOf (now (values .entry)) (now (marks .entry))) (buttonsOf (now (values .entry)) (now (times .entry)) (now (marks .entry)))
         (axesOf (now (values .entry)) (now (times .entry))) (now (flags .entry))) (t .event)) (givesOf t) (now (flags .entry)) (t .head) (t .waiting)
         (now (values .entry)) (now (times .entry)) (now (queuebytes .entry)) (now (queuecodes .entry)) r (now (flags .exit))
-        (now (values .exit)) (now (times .exit)) (now (queuebytes .exit)) (now (queuecodes .exit)) ⌝ }
+        (now (values .exit)) (now (times .exit)) (now (queuebytes .exit)) (now (queuecodes .exit))) ⌝ }
 {
     let more = push_next(values, times, queuebytes, queuecodes, t);
     let e = t.event;
@@ -340,12 +355,14 @@ pub fn serve<'a>(
         return Served {
             event: e,
             waiting: more,
+            place: place,
         };
     }
     if lane == VALUE_LANE {
         return Served {
             event: value_sent(hasbutton, hasaxis, values, times, marks, e, place),
             waiting: more,
+            place: place,
         };
     }
     if lane == HAT_LANE {

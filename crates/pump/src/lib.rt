@@ -15,9 +15,6 @@ use hub::PumpedHead;
 use rules::EVENT_SIZE;
 use rules::PumpAnswer;
 
-// No pad has this number.
-const NO_PAD: u8 = 4;
-
 // The head after some steps: its settings stay.
 fn stepped(
     head: Head,
@@ -86,22 +83,18 @@ pub fn pump<'s>(
     let converts = settings.converts;
     let newconverts = settings.newconverts;
     let mut at = place;
-    let mut events: usize = 0;
-    // the bytes of the events written, counted on: they are not worked out anew for each
+    // the bytes of the events written, and the steps left: how many events and steps that makes is worked out where the pump returns, since each number that
+    // the loop carries takes a register
     let mut filled: usize = 0;
-    let mut steps: usize = 0;
-    let mut left = allowance as usize;
-    // the place that was looked up last
-    let mut lastpad: u8 = NO_PAD;
-    let mut lastcode: u32 = 0;
-    let mut last = pad::place_of(codes, lastpad, lastcode);
+    let most = allowance as usize;
+    let mut left = most;
     loop {
-        let kept = loop {
+        let sent = loop {
             let why = turn::stop(waiting, batch.len() - at, out.len() - filled, left);
             if 0 < why {
                 return PumpedHead {
                     head: stepped(settings, connected, renamed, flags, front, waiting),
-                    answer: turn::stop_answer(why, at, events, steps),
+                    answer: turn::stop_answer(why, at, filled / EVENT_SIZE, most - left),
                 };
             }
             // gather and decide: what is taken
@@ -125,14 +118,11 @@ pub fn pump<'s>(
                 settings.pressed,
                 settings.released,
                 settings.reversed,
-                lastpad,
-                lastcode,
-                last,
             );
             if 0 < taken.number {
                 return PumpedHead {
                     head: stepped(settings, connected, renamed, flags, front, waiting),
-                    answer: PumpAnswer::Refused(taken.number, at, events, steps),
+                    answer: PumpAnswer::Refused(taken.number, at, filled / EVENT_SIZE, most - left),
                 };
             }
             // commit: the marks of a taken record, the ring, the place
@@ -148,11 +138,6 @@ pub fn pump<'s>(
             at = taken.at;
             front = taken.head;
             left = left - 1;
-            steps = steps + 1;
-            let event = taken.event;
-            lastpad = event.pad;
-            lastcode = events::code_of(event);
-            last = taken.place;
             // what the filters make of the event; commit: flags and queue
             let served = passing::serve(
                 codes,
@@ -174,14 +159,13 @@ pub fn pump<'s>(
                 taken,
             );
             waiting = served.waiting;
-            let sent = served.event;
-            if events::kept(settings.filters, sent) {
-                break sent;
+            if events::kept(settings.filters, served.event) {
+                break served;
             }
         };
         // commit: the state, and the event's bytes
+        let kept = sent.event;
         cells::settle(
-            codes,
             hasbutton,
             hasaxis,
             values,
@@ -190,12 +174,9 @@ pub fn pump<'s>(
             settings.updates,
             kept,
             settings.counter,
-            lastpad,
-            lastcode,
-            last,
+            sent.place,
         );
         wire::write_event(&mut out[filled..], kept);
-        events = events + 1;
         filled = filled + EVENT_SIZE;
     }
 }

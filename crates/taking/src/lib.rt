@@ -1,7 +1,6 @@
 // What a step takes, behind one gate: the queue's front where something waits, else the record at the place, looked at, judged and dispatched. The gate stands
 // inside a function that is lent the arrays, and not in the pump's loop, where a branch that falls through would cost a join of all that is lent.
 ghost use mathlib.Core.Path.{_≡_};
-ghost use Rattle.pad.specs.Found.{Placed};
 ghost use Rattle.columns.specs.Columns.{elementsOf, buttonsOf, slotsOf};
 ghost use Rattle.taking.specs.Taking.{takingHub, TakenIs};
 use columns::Marks;
@@ -52,7 +51,7 @@ fn refused(number: u8) -> Taken
     }
 }
 
-// `last` is where the code of the step before stands, which is most often the front's too.
+// Where something waits no record is looked at.
 pub fn take<'a>(
     codes: &'a [u32; 208],
     kinds: &'a [u8; 208],
@@ -73,11 +72,7 @@ pub fn take<'a>(
     pressed: f32,
     released: f32,
     reversed: bool,
-    lastpad: u8,
-    lastcode: u32,
-    last: usize,
 ) -> Taken
-    requires { ⌜ Placed (now codes) lastpad lastcode last ⌝ }
     ensures { λ r. ⌜ TakenIs (takingHub (now (codes .entry)) (now (kinds .entry)) (now (names .entry)) (now (renames .entry)) (now (renamed .entry))
         (now (hasbutton .entry)) (elementsOf (now (values .entry)) (now (marks .entry)))
         (buttonsOf (now (values .entry)) (now (times .entry)) (now (marks .entry)))
@@ -93,7 +88,7 @@ pub fn take<'a>(
             number: 0,
             pad: 0,
             kind: 0,
-            place: gather::place_again(codes, e.pad, code, lastpad, lastcode, last),
+            place: pad::place_of(codes, e.pad, code),
             event: e,
             follows: false,
             next: e,

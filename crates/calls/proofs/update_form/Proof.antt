@@ -2,6 +2,7 @@
 use borrow.Author.Needs.{needs}
 use denote.Ref.{now}
 use mathlib.Core.Bool.{true}
+use Rattle.rules.specs.Events.{formEvent}
 use Rattle.hub.specs.Lent.{listed}
 use Rattle.cells.specs.Settled.{settled-hub}
 use Rattle.calls.specs.Judged.{update-refused, update-done}
@@ -21,16 +22,26 @@ returns c kinds names renames queuebytes queuecodes =
 form-event-requires : tie.Need-form-event-requires
 form-event-requires c κs = search needs
 
+code-of-requires : tie.Need-code-of-requires
+code-of-requires c κs = search needs
+
+event-place-requires : tie.Need-event-place-requires
+unfolding formEvent
+event-place-requires c κs = rw (c .before .form-event .ensures) (c .before .before .before .before .place-of .ensures)
+
 settle-requires : tie.Need-settle-requires
 settle-requires c κs = search needs
 
 returns-2 : tie.Need-returns-2
 returns-2 c kinds names renames queuebytes queuecodes =
-    let made = c .before .before .before .before .before .before in
+    let place = c .before .before .before .before .before .before in
+    let code = place .before in
+    let made = code .before in
     let judged = made .before .before in
     let a = judged .before .before .args in
     update-done _ _ (judged .before .place-of .ensures .is) (judged .form-refusal .ensures) (made .before .if1 .left) (made .form-event .ensures)
-    (settled-hub (a .head) (listed (now (a .codes)) kinds names renames) queuebytes queuecodes true _ (c .settle .ensures))
+    (settled-hub (a .head) (listed (now (a .codes)) kinds names renames) queuebytes queuecodes true _
+    (rw (← code .code-of .ensures, ← place .event-place .ensures .is) (c .settle .ensures)))
 
 pub update-form-spec : {M : Type 1} → statement M
 update-form-spec =
@@ -40,5 +51,7 @@ update-form-spec =
     form-refusal-requires
     returns
     form-event-requires
+    code-of-requires
+    event-place-requires
     settle-requires
     returns-2)

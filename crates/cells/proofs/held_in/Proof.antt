@@ -1,10 +1,7 @@
--- `cells::held_in` meets its contract: what the reads at the direction's place ensure.
+-- `cells::held_in` meets its contract: what the reads at the place ensure.
 use borrow.Author.Needs.{needs}
 use Rattle.cells.proofs.held_in.Statement.{statement}
 use Rattle.cells.proofs.held_in.Tie as tie
-
-hat-place-requires : tie.Need-hat-place-requires
-hat-place-requires c κs = search needs
 
 bool-at-requires : tie.Need-bool-at-requires
 bool-at-requires c κs = search needs
@@ -21,10 +18,9 @@ returns c =
       c .read-pressed .ensures,
       c .before .button-at .ensures,
       c .before .before .bool-at .ensures,
-      c .before .before .before .hat-place .ensures .is,
     )
 
 pub held-in-spec : {M : Type 1} → statement M
 held-in-spec =
     tie.close
-    (tie.spec hat-place-requires bool-at-requires button-at-requires read-pressed-requires returns)
+    (tie.spec bool-at-requires button-at-requires read-pressed-requires returns)

@@ -1,19 +1,10 @@
 -- `cells::settle` meets its contract, at each of its four ends, by what the calls on the way ensure.
 use borrow.Author.Needs.{needs}
 use borrow.Author.Tests.{not-true, not-false}
-use denote.Ref.{now}
-use mathlib.Core.Path.{_≡_, _∙_, sym}
-use Rattle.rules.specs.Places.{placeOf}
-use Rattle.rules.specs.Events.{codeOf}
+use mathlib.Core.Path.{_∙_, sym}
 use Rattle.cells.specs.Settled.{settled-none, settled-button, settled-axis}
 use Rattle.cells.proofs.settle.Statement.{statement}
 use Rattle.cells.proofs.settle.Tie as tie
-
--- the place is the event's
-place-is :
-    (c : tie.After-place-again) →
-    let a = c .before .before .before .args in c .place-again .result ≡ placeOf (now (a .codes)) (a .e .pad) (codeOf (a .e))
-place-is c = rw (← c .before .code-of .ensures) (c .place-again .ensures .is)
 
 -- updates are off
 returns : tie.Need-returns
@@ -21,12 +12,6 @@ returns c =
     let a = c .before .args in
     let off = not-true (a .on) (c .if1 .taken) in
     settled-none (rw off) (rw off)
-
-code-of-requires : tie.Need-code-of-requires
-code-of-requires c κs = search needs
-
-place-again-requires : tie.Need-place-again-requires
-place-again-requires c κs = search needs
 
 writes-button-requires : tie.Need-writes-button-requires
 writes-button-requires c κs = search needs
@@ -53,11 +38,10 @@ returns-2 c =
     let read = stored .before .before .before .before .before in
     let known = read .before .before .before .before in
     let writes = known .before .before in
-    let place = writes .before .before in
-    let a = place .before .before .before .args in
-    rw (← place-is place)
-    (settled-button (not-false (a .on) (place .before .before .if1 .left)) (writes .before .writes-button .ensures) (writes .if2 .taken)
-    (known .bool-at .ensures) (read .button-at .ensures) (stored .before .button-after .ensures) (stored .put-button .ensures) (c .mark .ensures))
+    let updates = writes .before .before in
+    let a = updates .before .args in
+    settled-button (not-false (a .on) (updates .if1 .left)) (writes .before .writes-button .ensures) (writes .if2 .taken)
+    (known .bool-at .ensures) (read .button-at .ensures) (stored .before .button-after .ensures) (stored .put-button .ensures) (c .mark .ensures)
 
 writes-axis-requires : tie.Need-writes-axis-requires
 writes-axis-requires c κs = search needs
@@ -66,11 +50,11 @@ writes-axis-requires c κs = search needs
 returns-3 : tie.Need-returns-3
 returns-3 c =
     let writes = c .before .before in
-    let place = writes .before .before in
-    let a = place .before .before .before .args in
+    let updates = writes .before .before in
+    let a = updates .before .args in
     let no-button = sym (writes .before .writes-button .ensures) ∙ writes .if2 .left in
     let no-axis = sym (c .before .writes-axis .ensures) ∙ not-true (c .before .writes-axis .result) (c .if3 .taken) in
-    let on = not-false (a .on) (place .before .before .if1 .left) in
+    let on = not-false (a .on) (updates .if1 .left) in
     settled-none (rw on no-button) (rw on no-axis)
 
 axis-at-requires : tie.Need-axis-at-requires
@@ -92,20 +76,17 @@ returns-4 c =
     let read = stored .before .before .before .before in
     let moves = read .before .before .before in
     let writes = moves .before .before in
-    let place = writes .before .before in
-    let a = place .before .before .before .args in
-    rw (← place-is place)
-    (settled-axis (not-false (a .on) (place .before .before .if1 .left)) (writes .before .writes-button .ensures) (writes .if2 .left)
+    let updates = writes .before .before in
+    let a = updates .before .args in
+    settled-axis (not-false (a .on) (updates .if1 .left)) (writes .before .writes-button .ensures) (writes .if2 .left)
     (moves .before .writes-axis .ensures) (not-false (moves .before .writes-axis .result) (moves .if3 .left)) (read .axis-at .ensures)
-    (stored .before .axis-after .ensures) (stored .put-axis .ensures) (c .mark2 .ensures))
+    (stored .before .axis-after .ensures) (stored .put-axis .ensures) (c .mark2 .ensures)
 
 pub settle-spec : {M : Type 1} → statement M
 settle-spec =
     tie.close
     (tie.spec
     returns
-    code-of-requires
-    place-again-requires
     writes-button-requires
     bool-at-requires
     button-at-requires

@@ -1,6 +1,7 @@
 -- `passing::pass_stick` meets its contract: what is gathered is what a stick sees of the hub, and what the filters make of it is handed on, by whether it clears
 -- the partner.
 use borrow.Author.Needs.{needs}
+use mathlib.Core.Path.{refl}
 use denote.Ref.{now}
 use mathlib.Core.List.{[]}
 use Rattle.rules.specs.declared.Hub.{Hub}
@@ -50,10 +51,12 @@ returns c =
     let z = both .before .before .before .before .before in
     let v = z .before in
     let found = v .before .before .before in
-    let s = found .before .before .before in
-    stick-left (seen s) (s .args .e) (s .args .place) (found .before .name-of .ensures) (found .stick-places .ensures) (v .view-in .ensures)
-    (z .unturned .ensures) (both .before .before .mark-flag .ensures) (both .mark-flag2 .ensures)
-    (rw (c .before .before .before .before .before .if1 .taken) (c .push .ensures))
+    let s = found .before .before .before in (
+      refl,
+      stick-left (seen s) (s .args .e) (s .args .place) (found .before .name-of .ensures) (found .stick-places .ensures) (v .view-in .ensures)
+          (z .unturned .ensures) (both .before .before .mark-flag .ensures) (both .mark-flag2 .ensures)
+          (rw (c .before .before .before .before .before .if1 .taken) (c .push .ensures)),
+    )
 
 returns-2 : tie.Need-returns-2
 returns-2 c =
@@ -61,9 +64,11 @@ returns-2 c =
     let z = both .before .before .before .before .before in
     let v = z .before in
     let found = v .before .before .before in
-    let s = found .before .before .before in
-    stick-left (seen s) (s .args .e) (s .args .place) (found .before .name-of .ensures) (found .stick-places .ensures) (v .view-in .ensures)
-    (z .unturned .ensures) (both .before .before .mark-flag .ensures) (both .mark-flag2 .ensures) (rw (c .if1 .left) pushed-none)
+    let s = found .before .before .before in (
+      refl,
+      stick-left (seen s) (s .args .e) (s .args .place) (found .before .name-of .ensures) (found .stick-places .ensures) (v .view-in .ensures)
+          (z .unturned .ensures) (both .before .before .mark-flag .ensures) (both .mark-flag2 .ensures) (rw (c .if1 .left) pushed-none),
+    )
 
 pub pass-stick-spec : {M : Type 1} → statement M
 pass-stick-spec =

@@ -2,7 +2,7 @@
 use borrow.Author.Needs.{needs}
 use denote.Ref.{now}
 use Prim.Native.Nat.{ℕ, _≤_}
-use mathlib.Core.Path.{_≡_, refl}
+use mathlib.Core.Path.{_≡_, refl, sym, _∙_}
 use native.Mathlib.Omega.{arith}
 use Rattle.rules.specs.declared.Hub.{Hub}
 use Rattle.rules.specs.declared.Dispatched.{Dispatched}
@@ -10,6 +10,7 @@ use Rattle.columns.specs.Columns.{elementsOf, buttonsOf, axesOf}
 use Rattle.filters.specs.Lanes.{lane-few}
 use Rattle.taking.specs.Taking.{givesOf}
 use Rattle.passing.specs.Passing.{seenHub}
+use Rattle.passing.specs.Sent.{value-same, stick-same, sent-none, sent-same, sent-hat}
 use Rattle.passing.specs.Served.{serves-none, serves-value, serves-hat, serves-stick}
 use Rattle.passing.proofs.serve.Statement.{statement}
 use Rattle.passing.proofs.serve.Tie as tie
@@ -43,8 +44,11 @@ lane-of-requires c κs = search needs
 returns : tie.Need-returns
 returns c =
     let l = c .before in
-    serves-none (start l .args .on) (seen (start l)) (taken (start l)) (now (start l .args .marks)) refl refl refl (pushed l .push-next .ensures)
-    (start l .pre .is) (l .lane-of .ensures) (c .if1 .taken)
+    let a = start l .args in (
+      sent-none (now (a .codes)) (a .on) (a .t .event) (start l .pre .small) (start l .pre .is),
+      serves-none (start l .args .on) (seen (start l)) (taken (start l)) (now (start l .args .marks)) refl refl refl (pushed l .push-next .ensures)
+          (start l .pre .is) (l .lane-of .ensures) (c .if1 .taken),
+    )
 
 value-sent-requires : tie.Need-value-sent-requires
 value-sent-requires c κs = start (c .before .before .before .before) .pre .small
@@ -52,8 +56,12 @@ value-sent-requires c κs = start (c .before .before .before .before) .pre .smal
 returns-2 : tie.Need-returns-2
 returns-2 c =
     let l = c .before .before .before .before .before in
-    serves-value (start l .args .on) (seen (start l)) (taken (start l)) (now (start l .args .marks)) refl refl refl (pushed l .push-next .ensures)
-    (start l .pre .is) (l .lane-of .ensures) (c .before .before .before .if2 .taken) (c .value-sent .ensures)
+    let a = start l .args in (
+      sent-same (now (a .codes)) (a .on) (a .t .event) (start l .pre .small) (start l .pre .is) _ _ 1 (sym (l .lane-of .ensures) ∙ c .before .before .before .if2 .taken)
+          (λ (z : 1 ≡ 0). omega arith) (c .value-sent .ensures) (value-same _ _ (a .t .event)) refl,
+      serves-value (start l .args .on) (seen (start l)) (taken (start l)) (now (start l .args .marks)) refl refl refl (pushed l .push-next .ensures)
+          (start l .pre .is) (l .lane-of .ensures) (c .before .before .before .if2 .taken) (c .value-sent .ensures),
+    )
 
 turn-hat-requires : tie.Need-turn-hat-requires
 turn-hat-requires c κs = search needs
@@ -61,8 +69,13 @@ turn-hat-requires c κs = search needs
 returns-3 : tie.Need-returns-3
 returns-3 c =
     let l = c .before .before .before .before .before .before .before .before in
-    serves-hat (start l .args .on) (seen (start l)) (taken (start l)) (now (start l .args .marks)) refl refl refl (pushed l .push-next .ensures)
-    (start l .pre .is) (l .lane-of .ensures) (c .before .before .before .before .before .if3 .taken) (c .turn-hat .ensures)
+    let a = start l .args in
+    let t = c .turn-hat .ensures in (
+      sent-hat (now (a .codes)) (a .on) _ _ (a .t .event) _ _ (sym (l .lane-of .ensures) ∙ c .before .before .before .before .before .if3 .taken) (t .hands .event) (t .place)
+          (t .small),
+      serves-hat (start l .args .on) (seen (start l)) (taken (start l)) (now (start l .args .marks)) refl refl refl (pushed l .push-next .ensures)
+          (start l .pre .is) (l .lane-of .ensures) (c .before .before .before .before .before .if3 .taken) (t .hands),
+    )
 
 pass-stick-requires : tie.Need-pass-stick-requires
 pass-stick-requires c κs = start (c .before .before .before .before .before .before .before .before) .pre .small
@@ -73,8 +86,13 @@ returns-4 c =
     let l = none .before .before .before in
     let few : l .lane-of .result ≤ 3 = rw (l .lane-of .ensures) (lane-few _ _ _ _) in
     let last : l .lane-of .result ≡ 3 = omega (arith, few, none .if3 .left, none .before .if2 .left, none .before .before .if1 .left) in
-    serves-stick (start l .args .on) (seen (start l)) (taken (start l)) (now (start l .args .marks)) refl refl refl (pushed l .push-next .ensures)
-    (start l .pre .is) (l .lane-of .ensures) last (c .pass-stick .ensures)
+    let a = start l .args in
+    let s = c .pass-stick .ensures in (
+      sent-same (now (a .codes)) (a .on) (a .t .event) (start l .pre .small) (start l .pre .is) _ _ 3 (sym (l .lane-of .ensures) ∙ last) (λ (z : 3 ≡ 0). omega arith)
+          (s .1 .hands .event) (stick-same _ (a .t .event)) (s .0),
+      serves-stick (start l .args .on) (seen (start l)) (taken (start l)) (now (start l .args .marks)) refl refl refl (pushed l .push-next .ensures)
+          (start l .pre .is) (l .lane-of .ensures) last (s .1),
+    )
 
 pub serve-spec : {M : Type 1} → statement M
 serve-spec =

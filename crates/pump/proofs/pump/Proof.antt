@@ -6,6 +6,7 @@ mod Landmarks
 mod Turns
 mod Plain
 mod Writes
+mod Counts
 use Prim.Native.Nat.{_+_, _≤_, _<_}
 use mathlib.Core.Path.{refl, sym, _∙_}
 use lib.ListN.{length, length-drop, length-take}
@@ -22,6 +23,7 @@ use Rattle.pump.proofs.pump.Proof.Landmarks as mark
 use Rattle.pump.proofs.pump.Proof.Turns.{turns, head-served, hub-served, queuebytes-by, queuecodes-by}
 use Rattle.pump.proofs.pump.Proof.Plain as plain
 use Rattle.pump.proofs.pump.Proof.Writes.{written, as-long}
+use Rattle.pump.proofs.pump.Proof.Counts.{none-made, step-more, event-more}
 
 returns : At tie.Need-returns
 returns c =
@@ -31,7 +33,7 @@ returns c =
 
 loop-holds : At tie.Need-loop-holds
 loop-holds c =
-    let n = c .before .before .before .before .before .before in
+    let n = c .before .before .before .before .before in
     let s = n .before .before .before .before in
     let a = s .args in
     let g = accepted (length (now (a .batch))) (length (now (a .out))) (a .place) (n .before .pump-refusal .ensures) (n .if1 .left) in (
@@ -41,11 +43,11 @@ loop-holds c =
         out-small = g .out-small;
         room = omega arith;
         steps-small = omega (arith, s .fits .allowance);
-        same = refl;
+        same = none-made (mark.hub-given s) (now (a .batch)) (a .place) (now (a .out)) (a .allowance);
       },
       refl,
-      c .place-of .ensures,
       refl,
+      omega arith,
     )
 
 loop2-holds : At tie.Need-loop2-holds
@@ -60,8 +62,14 @@ loop2-holds c =
         same = refl;
       },
       omega arith,
-      c .loop .inv .2,
     )
+
+-- no more is left than was allowed
+sub-stop-answer : At tie.Need-sub-stop-answer
+sub-stop-answer c = let i = c .before .before .before in omega (arith, i .loop2 .inv .1, mark.outer i .loop .inv .3)
+
+sub-t64 : At tie.Need-sub-t64
+sub-t64 c = let r = mark.room-in (mark.going (c .before .before .before)) in omega (arith, r .few)
 
 -- a stop
 returns-2 : At tie.Need-returns-2
@@ -69,14 +77,11 @@ returns-2 c =
     let t = c .before .before in
     let i = t .before .before in
     let l = i .loop2 in
-    let o = mark.outer i .loop in
-    mark.headed (c .stop-answer .result) (mark.listed-in (mark.start (mark.outer i))) (mark.columns-in i) (o .out) (c .before .stepped .ensures)
-    ∙ run-stops (mark.hub-in i) (mark.batch-in (mark.outer i)) (l .at) (o .out) (o .events) (l .steps) (l .left) (mark.stops (t .before)) (t .if2 .taken)
+    let o = mark.outer i in
+    mark.headed (c .stop-answer .result) (mark.listed-in (mark.start o)) (mark.columns-in i) (o .loop .out) (c .before .stepped .ensures)
+    ∙ run-stops (mark.hub-in i) (mark.batch-in o) (l .at) (o .loop .out) (mark.events-in o) (mark.steps-in i) (l .left) (mark.stops (t .before)) (t .if2 .taken)
     (c .stop-answer .ensures)
     ∙ mark.whole-run i
-
-take-requires : At tie.Need-take-requires
-take-requires c κs = mark.inner (c .before .before .before .before .before .before .before) .loop2 .inv .2
 
 same-length-2 : At tie.Need-same-length-2
 same-length-2 c = let o = mark.outer (mark.inner-of (c .before .before .before)) .loop .inv in omega (arith, o .1)
@@ -88,33 +93,30 @@ returns-3 c =
     let g = mark.going t in
     let i = mark.inner g in
     let l = i .loop2 in
-    let o = mark.outer i .loop in
-    mark.headed (Refused (t .take .result .number) (l .at) (o .events) (l .steps)) (mark.listed-in (mark.start (mark.outer i))) (mark.columns-in i) (o .out)
+    let o = mark.outer i in
+    mark.headed (Refused (t .take .result .number) (l .at) (mark.events-in o) (mark.steps-in i)) (mark.listed-in (mark.start o)) (mark.columns-in i) (o .loop .out)
     (c .stepped2 .ensures)
-    ∙ run-refuses (mark.hub-in i) (mark.batch-in (mark.outer i)) (l .at) (o .out) (o .events) (l .steps) (l .left) (mark.stops (g .before)) (g .if2 .left)
+    ∙ run-refuses (mark.hub-in i) (mark.batch-in o) (l .at) (o .loop .out) (mark.events-in o) (mark.steps-in i) (l .left) (mark.stops (g .before)) (g .if2 .left)
     (mark.taken-is t .number) (c .before .if3 .taken)
     ∙ mark.whole-run i
 
 sub-left : At tie.Need-sub-left
 sub-left c = let r = mark.room-in (mark.going (mark.taken (mark.accepted c))) in omega arith
 
-add-steps : At tie.Need-add-steps
-add-steps c = let i = mark.inner-of (mark.taken (mark.accepted c)) .loop2 .inv .0 in omega arith
-
 serve-requires : At tie.Need-serve-requires
-serve-requires c κs = mark.given (mark.accepted (mark.joined (mark.lent c))) .placed
+serve-requires c κs = mark.given (mark.accepted (mark.lent c)) .placed
 
 loop2-less : At tie.Need-loop2-less
-loop2-less c = let r = mark.room-in (mark.going (mark.taken (mark.accepted-of (c .before .before .before)))) in omega arith
+loop2-less c = let r = mark.room-in (mark.going (mark.taken (mark.accepted-of (c .before .before)))) in omega arith
 
 -- a dropped event: a step that writes nothing
 loop2-again : At tie.Need-loop2-again
 loop2-again c =
-    let p = c .before .before .before in
+    let p = c .before .before in
     let y = mark.accepted-of p in
     let n = mark.inner-at p in
     let l = n .loop2 in
-    let o = mark.outer n .loop in
+    let o = mark.outer n in
     let i = l .inv .0 in
     let r = mark.room-in (mark.going (mark.taken y)) in (
       record {
@@ -122,20 +124,20 @@ loop2-again c =
         batch-small = i .batch-small;
         out-small = i .out-small;
         room = i .room;
-        steps-small = omega (arith, i .steps-small);
+        steps-small = omega (arith, i .steps-small, r .few, r .step-left);
         same =
-            sym
+            step-more _ (mark.batch-in o) _ (o .loop .out) (r .step-left) (r .few) (mark.events-in o)
+            ∙ sym
             (mark.goes-on y
-            (step-skips (mark.hub-in n) (mark.batch-in (mark.outer n)) (l .at) (o .out) (o .events) (l .steps) refl (turns p) (mark.given y .place)
+            (step-skips (mark.hub-in n) (mark.batch-in o) (l .at) (o .loop .out) (mark.events-in o) (mark.steps-in n) refl (turns p) (mark.given y .place)
             (sym (c .before .kept .ensures) ∙ c .if4 .left)))
             ∙ i .same;
       },
       omega (arith, l .inv .1),
-      mark.placed (mark.coded p),
     )
 
 settle-requires : At tie.Need-settle-requires
-settle-requires c κs = mark.placed (mark.coded (mark.served (c .before .before .before .before .before)))
+settle-requires c κs = mark.served (c .before .before .before .before .before .before) .serve .ensures .0 .small
 
 -- ---- a kept event is written: there is room
 
@@ -151,9 +153,6 @@ part-write-event-end c = let r = mark.room-of c in omega arith
 write-event-requires : At tie.Need-write-event-requires
 write-event-requires c κs = simp (length-drop, length-take) (omega (arith, mark.room-of (c .before)))
 
-add-events : At tie.Need-add-events
-add-events c = let r = mark.room-of (c .before .before .before .before) in omega arith
-
 add-filled : At tie.Need-add-filled
 add-filled c = let r = mark.room-of (c .before .before .before .before) in omega arith
 
@@ -161,7 +160,7 @@ loop-less : At tie.Need-loop-less
 loop-less c =
     let g = mark.going-of (mark.kept (c .before .before .before .before)) in
     let r = mark.room-in g in
-    let i = mark.inner g .loop2 .inv in omega arith
+    let i = mark.inner g .loop2 .inv in omega (arith, i .1)
 
 -- a kept event: a step, with the state settled and the event's bytes written
 loop-again : At tie.Need-loop-again
@@ -178,25 +177,27 @@ loop-again c =
     let u = hub-served p in
     let z = p .serve .result .event in
     let wrote = c .before .before .write-event .ensures in
-    let long = as-long (o .loop .out) (o .loop .events) (r .filled) (r .room) z wrote in (
+    let kept = sym (k .before .kept .ensures) ∙ k .if4 .taken in
+    let place = p .serve .ensures .0 .is kept in
+    let long = as-long (o .loop .out) (mark.events-in o) (r .filled) (r .room) z wrote in (
       record {
         at-small = mark.given y .within (i .at-small);
         batch-small = i .batch-small;
         out-small = rw long (i .out-small);
-        room = rw long (omega (arith, r .room));
-        steps-small = omega (arith, i .steps-small);
+        room = rw long (omega (arith, r .room, r .filled));
+        steps-small = omega (arith, i .steps-small, r .few, r .step-left);
         same =
-            sym
+            event-more _ (mark.batch-in o) _ _ (r .step-left) (r .few) (r .filled)
+            ∙ sym
             (mark.goes-on y
-            (step-keeps (mark.hub-in n) (mark.batch-in o) (l .at) (o .loop .out) (o .loop .events) (l .steps) refl (turns p) (mark.given y .place)
-            (sym (k .before .kept .ensures) ∙ k .if4 .taken)
-            (settled-hub (head-served p) (mark.listed-in (mark.start o)) (queuebytes-by p) (queuecodes-by p) (u .updates) z (w .settle .ensures))
-            (written (o .loop .out) (o .loop .events) (r .filled) (r .room) z wrote)))
+            (step-keeps (mark.hub-in n) (mark.batch-in o) (l .at) (o .loop .out) (mark.events-in o) (mark.steps-in n) refl (turns p) (mark.given y .place) kept
+            (settled-hub (head-served p) (mark.listed-in (mark.start o)) (queuebytes-by p) (queuecodes-by p) (u .updates) z (rw (← place) (w .settle .ensures)))
+            (written (o .loop .out) (mark.events-in o) (r .filled) (r .room) z wrote)))
             ∙ i .same ∙ o .loop .inv .0 .same;
       },
       long ∙ o .loop .inv .1,
-      mark.placed (mark.coded p),
       omega (arith, r .filled),
+      omega (arith, r .few),
     )
 
 pub pump-spec : {M : Type 1} → statement M
@@ -209,24 +210,23 @@ pump-spec =
     μ-loop
     plain.pump-refusal-requires
     returns
-    plain.place-of-requires
     loop-holds
     loop2-holds
     plain.sub-stop
     plain.sub-stop-2
     plain.stop-requires
     plain.stepped-requires
+    sub-stop-answer
     plain.stop-answer-requires
     plain.same-length
     returns-2
-    take-requires
+    plain.take-requires
     plain.stepped-requires-2
+    sub-t64
     same-length-2
     returns-3
     plain.mark-joins-requires
     sub-left
-    add-steps
-    plain.code-of-requires
     serve-requires
     plain.kept-requires
     loop2-less
@@ -236,7 +236,6 @@ pump-spec =
     part-write-event-start
     part-write-event-end
     write-event-requires
-    add-events
     add-filled
     loop-less
     loop-again)

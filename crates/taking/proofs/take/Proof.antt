@@ -47,8 +47,8 @@ event-of-requires c κs = search needs
 code-of-requires : tie.Need-code-of-requires
 code-of-requires c κs = search needs
 
-place-again-requires : tie.Need-place-again-requires
-place-again-requires c κs = search needs
+place-of-requires : tie.Need-place-of-requires
+place-of-requires c κs = search needs
 
 head-after-requires : tie.Need-head-after-requires
 head-after-requires c κs = search needs
@@ -63,7 +63,7 @@ returns c =
     let front = event .before .before in
     let s = front .before .before .before in
     takes-front (lent s) (now (s .args .batch)) (s .args .at) (front .before .if1 .taken) (front .front .ensures .is) (event .before .slot-at .ensures)
-    (event .event-of .ensures) (placed .before .code-of .ensures) (placed .place-again .ensures) (c .before .head-after .ensures) (c .fewer .ensures)
+    (event .event-of .ensures) (placed .before .code-of .ensures) (placed .place-of .ensures) (c .before .head-after .ensures) (c .fewer .ensures)
 
 -- ---- the record
 
@@ -131,7 +131,7 @@ take-spec =
     slot-at-requires
     event-of-requires
     code-of-requires
-    place-again-requires
+    place-of-requires
     head-after-requires
     fewer-requires
     returns

@@ -1,6 +1,6 @@
 -- The landmarks of the pump's code, which the proofs go by: each is told from the one behind it, so that a statement added to the code moves the one line that
 -- steps over it. Then what holds at them: the hub where each loop stands and where an event is served, and the facts that more than one proof goes by.
-use Prim.Native.Nat.{ℕ, _+_, _-_, _*_, _≤_, _<_}
+use Prim.Native.Nat.{ℕ, _+_, _-_, _*_, _/_, _≤_, _<_}
 use mathlib.Core.Path.{_≡_, _∙_, ap}
 use mathlib.Core.Bool.{Bool}
 use mathlib.Core.List.{List}
@@ -12,7 +12,6 @@ use Rattle.rules.specs.declared.PumpAnswer.{PumpAnswer}
 use Rattle.rules.specs.Names.{bufferLimit}
 use Rattle.rules.specs.Forms.{eventSize}
 use Rattle.rules.specs.Pump.{Progress, Run, stepped, stopOf, pumpOf}
-use Rattle.pad.specs.Found.{Placed}
 use Rattle.pump_laws.specs.Runs.{rest, standing, roomy, run-goes, pump-runs}
 use Rattle.hub.specs.declared.Head.{Head}
 use Rattle.hub.specs.Lent.{Listed, Columns, listed, columns, hubOf, pumped}
@@ -25,7 +24,7 @@ use Rattle.pump.proofs.pump.Proof.Loops.{At, hubAt}
 
 -- the call is not refused
 abbrev pub admitted : At tie.At-loop → At tie.Else1
-admitted c = c .before .before .before .before .before .before .before
+admitted c = c .before .before .before .before .before .before
 
 abbrev pub start : At tie.At-loop → At tie.Start
 start c = admitted c .before .before .before .before
@@ -53,18 +52,15 @@ taken c = c .before .before
 abbrev pub accepted : At tie.After-mark-joins → At tie.Else3
 accepted c = c .before .before .before .before .before .before
 
-abbrev pub joined : At tie.After-code-of → At tie.After-mark-joins
-joined c = c .before .before
-
 -- all that is lent to `serve` is
-abbrev pub lent : At tie.After-flags3 → At tie.After-code-of
+abbrev pub lent : At tie.After-flags3 → At tie.After-mark-joins
 lent c = c .before .before .before .before .before .before .before .before .before .before .before
 
-abbrev pub coded : At tie.After-serve → At tie.After-code-of
-coded c = lent (c .before)
+abbrev pub joined : At tie.After-serve → At tie.After-mark-joins
+joined c = lent (c .before)
 
 abbrev pub accepted-of : At tie.After-serve → At tie.Else3
-accepted-of c = accepted (joined (coded c))
+accepted-of c = accepted (joined c)
 
 abbrev pub inner-at : At tie.After-serve → At tie.At-loop2
 inner-at c = inner-of (taken (accepted-of c))
@@ -72,10 +68,10 @@ inner-at c = inner-of (taken (accepted-of c))
 -- ---- from the settled state back to the kept event
 
 abbrev pub kept : At tie.After-settle → At tie.Then4
-kept c = c .before .before .before .before .before .before
+kept c = c .before .before .before .before .before .before .before
 
 abbrev pub served : At tie.Then4 → At tie.After-serve
-served c = c .before .before .before
+served c = c .before .before
 
 abbrev pub going-of : At tie.Then4 → At tie.Else2
 going-of c = going (taken (accepted-of (served c)))
@@ -117,9 +113,16 @@ head-marked c =
 abbrev pub batch-in : At tie.At-loop → List ℕ
 batch-in c = now (start c .args .batch)
 
+-- the events written, and the steps made
+abbrev pub events-in : At tie.At-loop → ℕ
+events-in c = c .loop .filled / eventSize
+
+abbrev pub steps-in : At tie.At-loop2 → ℕ
+steps-in c = start (outer c) .args .allowance - c .loop2 .left
+
 -- where the pump stands at the head of the inner loop
 abbrev pub standing-in : At tie.At-loop2 → Progress
-standing-in c = let l = c .loop2 in let o = outer c .loop in standing (hub-in c) (l .at) (o .out) (o .events) (l .steps)
+standing-in c = let l = c .loop2 in let o = outer c in standing (hub-in c) (l .at) (o .loop .out) (events-in o) (steps-in c)
 
 -- ---- what holds there
 
@@ -128,29 +131,30 @@ pub stops :
     (c : At tie.After-stop) →
     let l = c .before .loop2 in
     let o = outer (c .before) .loop in
-    c .stop .result ≡ stopOf (l .waiting) (length (batch-in (outer (c .before))) - l .at) (length (o .out) - eventSize * o .events) (l .left)
+    c .stop .result ≡ stopOf (l .waiting) (length (batch-in (outer (c .before))) - l .at) (length (o .out) - eventSize * events-in (outer (c .before))) (l .left)
 stops c =
     let l = c .before .loop2 in
     let o = outer (c .before) .loop in
     c .stop .ensures
-    ∙ ap (λ (n : ℕ). stopOf (l .waiting) (length (batch-in (outer (c .before))) - l .at) (length (o .out) - n) (l .left)) (o .inv .3)
+    ∙ ap (λ (n : ℕ). stopOf (l .waiting) (length (batch-in (outer (c .before))) - l .at) (length (o .out) - n) (l .left)) (o .inv .2)
 
 -- where no stop is answered there is room for an event, and a step is left
 pub record Room (c : At tie.Else2) : Type 0 where
-  pub room : eventSize * outer (inner c) .loop .events + eventSize ≤ length (outer (inner c) .loop .out)
+  pub room : eventSize * events-in (outer (inner c)) + eventSize ≤ length (outer (inner c) .loop .out)
   pub small : length (outer (inner c) .loop .out) ≤ bufferLimit
   pub step-left : 0 < inner c .loop2 .left
-  pub filled : outer (inner c) .loop .filled ≡ eventSize * outer (inner c) .loop .events
+  pub filled : outer (inner c) .loop .filled ≡ eventSize * events-in (outer (inner c))
+  pub few : inner c .loop2 .left ≤ start (outer (inner c)) .args .allowance
 
 pub room-in : (c : At tie.Else2) → Room c
 room-in c =
     let l = inner c .loop2 in
     let o = outer (inner c) .loop in
     let batch-left = length (batch-in (outer (inner c))) - l .at in
-    let out-left = length (o .out) - eventSize * o .events in
+    let out-left = length (o .out) - eventSize * events-in (outer (inner c)) in
     let g = roomy (l .waiting) batch-left out-left (l .left) (stops (c .before)) (c .if2 .left) in
     let i = l .inv .0 in
-    record { room = omega arith; small = i .out-small; step-left = g .step-left; filled = o .inv .3 }
+    record { room = omega arith; small = i .out-small; step-left = g .step-left; filled = o .inv .2; few = omega (arith, l .inv .1, o .inv .3) }
 
 -- the run that is left where the inner loop stands, and the whole call
 abbrev pub run-in : At tie.At-loop2 → Run
@@ -191,19 +195,9 @@ goes-on c e =
     let g = going (taken c) in
     let i = inner g in
     let l = i .loop2 in
-    let o = outer i .loop in
-    run-goes (hub-in i) (batch-in (outer i)) (l .at) (o .out) (o .events) (l .steps) (l .left) (stops (g .before)) (g .if2 .left)
+    let o = outer i in
+    run-goes (hub-in i) (batch-in o) (l .at) (o .loop .out) (events-in o) (steps-in i) (l .left) (stops (g .before)) (g .if2 .left)
     (taken-is (taken c) .number) (c .if3 .left) e
-
-same-placed : {codes : List ℕ} {p c m k : ℕ} → m ≡ c → Placed codes p c k → Placed codes p m k
-same-placed e is = rw e is
-
--- the place that is looked up last is its code's
-pub placed :
-    (c : At tie.After-code-of) →
-    let t = taken (accepted (joined c)) in
-    let r = t .take .result in Placed (listed-in (start (outer (inner-of t))) .codes) (r .event .pad) (c .code-of .result) (r .place)
-placed c = same-placed (c .code-of .ensures) (given (accepted (joined c)) .placed)
 
 -- there was room where a kept event is written
 pub room-of : (c : At tie.After-settle) → Room (going-of (kept c))

@@ -1,13 +1,12 @@
--- The pump's loops. At the head of each the run that is left from where the pump stands is the whole run, at the hub that head and arrays stand for, and the
--- place that was looked up last is its code's; the bytes filled are those of the events written. The measure is what is left of the allowance.
-use Prim.Native.Nat.{ℕ, _*_, _≤_}
+-- The pump's loops. At the head of each the run that is left from where the pump stands is the whole run, at the hub that head and arrays stand for. The bytes
+-- filled tell the events written, and what is left of the allowance the steps made. The measure is what is left of the allowance.
+use Prim.Native.Nat.{ℕ, _-_, _*_, _/_, _≤_}
 use mathlib.Core.Path.{_≡_}
 use mathlib.Core.Bool.{Bool}
 use mathlib.Core.List.{List}
 use lib.ListN.{length}
 use Rattle.rules.specs.declared.Hub.{Hub}
 use Rattle.rules.specs.Forms.{eventSize}
-use Rattle.pad.specs.Found.{Placed}
 use Rattle.pump_laws.specs.Runs.{rest, standing}
 use Rattle.pump_laws.specs.Going.{Going}
 use Rattle.hub.specs.declared.Head.{Head}
@@ -22,46 +21,45 @@ hubAt head connected renamed flags front waiting s t = hubOf (steppedHead head c
 -- the inner loop: one step of the law book a turn
 abbrev pub Inv-loop2 : tie.InvT-loop2
 Inv-loop2 codes kinds names renames hasbutton₀ hasaxis₀ values₀ times₀ marks queuebytes₀ queuecodes₀ batch place out allowance h refused
-    connected₀ renamed₀ flags₀ front₀ waiting₀ converts newconverts at₀ events filled steps₀ left₀ lastpad₀ lastcode₀ last₀ hasbutton hasaxis values times queuebytes queuecodes
-    connected renamed flags front waiting at steps left lastpad lastcode last =
+    connected₀ renamed₀ flags₀ front₀ waiting₀ converts newconverts at₀ filled most left₀ hasbutton hasaxis values times queuebytes queuecodes
+    connected renamed flags front waiting at left =
     Going
     (hubAt h connected renamed flags front waiting (listed codes kinds names renames) (columns hasbutton hasaxis values times marks queuebytes queuecodes))
-    batch at out events steps left
+    batch at out (filled / eventSize) (most - left) left
     (rest left₀ batch
     (standing
     (hubAt h connected₀ renamed₀ flags₀ front₀ waiting₀ (listed codes kinds names renames)
     (columns hasbutton₀ hasaxis₀ values₀ times₀ marks queuebytes₀ queuecodes₀))
-    at₀ out events steps₀))
+    at₀ out (filled / eventSize) (most - left₀)))
     × (left ≤ left₀)
-    × Placed codes lastpad lastcode last
 
 abbrev pub μ-loop2 : tie.MeasureT-loop2
 μ-loop2 codes kinds names renames hasbutton₀ hasaxis₀ values₀ times₀ marks queuebytes₀ queuecodes₀ batch place out allowance h refused
-    connected₀ renamed₀ flags₀ front₀ waiting₀ converts newconverts at₀ events filled steps₀ left₀ lastpad₀ lastcode₀ last₀ hasbutton hasaxis values times queuebytes queuecodes
-    connected renamed flags front waiting at steps left lastpad lastcode last =
+    connected₀ renamed₀ flags₀ front₀ waiting₀ converts newconverts at₀ filled most left₀ hasbutton hasaxis values times queuebytes queuecodes
+    connected renamed flags front waiting at left =
     left
 
 -- the outer loop: one kept event a turn
 abbrev pub Inv-loop : tie.InvT-loop
 Inv-loop codes kinds names renames hasbutton₀ hasaxis₀ values₀ times₀ marks₀ queuebytes₀ queuecodes₀ batch place out₀ allowance h refused
-    connected₀ renamed₀ flags₀ front₀ waiting₀ converts newconverts at₀ events₀ filled₀ steps₀ left₀ lastpad₀ lastcode₀ last₀ hasbutton hasaxis values times marks queuebytes queuecodes
-    out connected renamed flags front waiting at events filled steps left lastpad lastcode last =
+    connected₀ renamed₀ flags₀ front₀ waiting₀ converts newconverts at₀ filled₀ most left₀ hasbutton hasaxis values times marks queuebytes queuecodes
+    out connected renamed flags front waiting at filled left =
     Going
     (hubAt h connected renamed flags front waiting (listed codes kinds names renames) (columns hasbutton hasaxis values times marks queuebytes queuecodes))
-    batch at out events steps left
+    batch at out (filled / eventSize) (most - left) left
     (rest left₀ batch
     (standing
     (hubAt h connected₀ renamed₀ flags₀ front₀ waiting₀ (listed codes kinds names renames)
     (columns hasbutton₀ hasaxis₀ values₀ times₀ marks₀ queuebytes₀ queuecodes₀))
-    at₀ out₀ events₀ steps₀))
+    at₀ out₀ 0 0))
     × (length out ≡ length out₀)
-    × Placed codes lastpad lastcode last
-    × (filled ≡ eventSize * events)
+    × (filled ≡ eventSize * (filled / eventSize))
+    × (left ≤ most)
 
 abbrev pub μ-loop : tie.MeasureT-loop
 μ-loop codes kinds names renames hasbutton₀ hasaxis₀ values₀ times₀ marks₀ queuebytes₀ queuecodes₀ batch place out₀ allowance h refused
-    connected₀ renamed₀ flags₀ front₀ waiting₀ converts newconverts at₀ events₀ filled₀ steps₀ left₀ lastpad₀ lastcode₀ last₀ hasbutton hasaxis values times marks queuebytes queuecodes
-    out connected renamed flags front waiting at events filled steps left lastpad lastcode last =
+    connected₀ renamed₀ flags₀ front₀ waiting₀ converts newconverts at₀ filled₀ most left₀ hasbutton hasaxis values times marks queuebytes queuecodes
+    out connected renamed flags front waiting at filled left =
     left
 
 -- a place of the code, or a need, with these invariants and measures

@@ -26,11 +26,11 @@ abbrev flags-by : At tie.After-serve → List Bool
 flags-by c = c .serve .last .1 .1 .1 .1 .1 .1 .1 .1 .1 .1 .1 .1 .1 .1 .0
 
 abbrev pub head-served : At tie.After-serve → Head
-head-served c = servedHead (mark.head-marked (mark.joined (mark.coded c))) (flags-by c) (c .serve .result .waiting)
+head-served c = servedHead (mark.head-marked (mark.joined c)) (flags-by c) (c .serve .result .waiting)
 
 abbrev pub hub-served : At tie.After-serve → Hub
 hub-served c =
-    let j = mark.joined (mark.coded c) in
+    let j = mark.joined c in
     let o = mark.outer (mark.inner-at c) in
     let v = c .serve .last .1 .1 .1 .1 .1 .1 .1 .1 .1 in
     hubOf (head-served c) (mark.listed-in (mark.start o))
@@ -45,11 +45,11 @@ pub turns :
 turns c =
     let i = mark.inner-at c in
     let o = mark.outer i in
-    let j = mark.joined (mark.coded c) in
+    let j = mark.joined c in
     let y = mark.accepted j in
     let d = givesOf (mark.taken y .take .result) in
     let m = mark.head-marked j in
     let s = mark.listed-in (mark.start o) in
     turn-served (mark.hub-in i) (mark.batch-in o) (i .loop2 .at) (mark.given y) (j .mark-joins .ensures)
-    (served-hub m s (mark.hasbutton-by j) (mark.hasaxis-by j) (o .loop .marks) d (c .serve .ensures))
-    (served-event m s (mark.hasbutton-by j) (mark.hasaxis-by j) (o .loop .marks) d (c .serve .ensures))
+    (served-hub m s (mark.hasbutton-by j) (mark.hasaxis-by j) (o .loop .marks) d (c .serve .ensures .1))
+    (served-event m s (mark.hasbutton-by j) (mark.hasaxis-by j) (o .loop .marks) d (c .serve .ensures .1))
