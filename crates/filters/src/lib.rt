@@ -49,7 +49,11 @@ fn passes(v: View, e: Event) -> Zoned
         event: e,
         clears: false,
         clearing: e,
-        flags: flags,
+        // field by field: a struct of two bytes that is copied whole is taken apart by shifts
+        flags: Flags {
+            own: flags.own,
+            partner: flags.partner,
+        },
     }
 }
 

@@ -258,6 +258,10 @@ pub fn view_of(
                 partnerbutton,
             ),
         },
-        flags: flags,
+        // field by field: a struct of two bytes that is copied whole is taken apart by shifts
+        flags: Flags {
+            own: flags.own,
+            partner: flags.partner,
+        },
     }
 }

@@ -1,7 +1,9 @@
 // One turn of the pump's loop, in small decisions. Each function equals its definition for every input.
 ghost use mathlib.Core.Path.{_≡_};
-ghost use mathlib.Core.Bool.{true};
-ghost use Prim.Native.Nat.{_+_, _-_, _<_, _%_};
+ghost use mathlib.Core.Bool.{true, _&&_};
+ghost use Prim.Native.Nat.{_+_, _-_, _≤_, _<_, _%_};
+ghost use lib.Dec.{eqb};
+ghost use Rattle.rules.specs.Names.{bufferLimit};
 ghost use Rattle.rules.specs.Hub.{longerOf, slotAt};
 ghost use Rattle.rules.specs.Step.{connectedAfter, renamedAfter, marksCleared, headAfter};
 ghost use Rattle.rules.specs.Pump.{stopOf, stopAnswer};
@@ -24,12 +26,21 @@ const PAUSED: u8 = 3;
 
 // ---- before a step
 
+// Whether there is nothing to take: one test of a sum, which is cheaper than two.
+fn nothing(waiting: u8, rest: usize) -> bool
+    requires { ⌜ rest ≤ bufferLimit ⌝ }
+    ensures { λ r. ⌜ r ≡ (eqb waiting 0 && eqb rest 0) ⌝ }
+{
+    choices::wide(waiting) + rest == 0
+}
+
 // Drained, Full, Paused, in this order, or to go on.
 pub fn stop(waiting: u8, rest: usize, room: usize, left: usize) -> u8
+    requires { ⌜ rest ≤ bufferLimit ⌝ }
     ensures { λ r. ⌜ r ≡ stopOf waiting rest room left ⌝ }
 {
     choices::chosen(
-        choices::both(waiting == 0, rest == 0),
+        nothing(waiting, rest),
         DRAINED,
         choices::chosen(
             room < EVENT_SIZE,

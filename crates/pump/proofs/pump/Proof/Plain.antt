@@ -14,7 +14,7 @@ pub sub-stop-2 : At tie.Need-sub-stop-2
 sub-stop-2 c = let i = c .before .loop .inv in omega (arith, i .2, i .1, c .loop2 .inv .0)
 
 pub stop-requires : At tie.Need-stop-requires
-stop-requires c κs = search needs
+stop-requires c κs = let i = c .loop2 .inv .0 in omega (arith, i .batch-small)
 
 pub stepped-requires : At tie.Need-stepped-requires
 stepped-requires c κs = search needs
