@@ -1,6 +1,5 @@
 // A turn's gates: the marks of a record that joins or leaves, and what a taken event's passing changes, behind one test each, so that only what is asked for is
-// read. Each answer is the law book's, as if all had been gathered. The gates stand inside functions that are lent the arrays, and not in the pump's loop, where
-// a branch that falls through would cost a join of all that is lent.
+// read. Each answer is the law book's, as if all had been gathered. The gates stand inside functions that are lent the arrays, not in the pump's loop.
 ghost use mathlib.Core.Path.{_≡_};
 ghost use mathlib.Core.Bool.{cond};
 ghost use mathlib.Core.List.{[]};
@@ -318,8 +317,7 @@ fn pass_stick<'a>(
     }
 }
 
-// What its record queues is pushed, and the event passes the filters that look at it: each is shown what it asks for and no more. The flags are set, and what
-// the filters queue is pushed, each event made only then.
+// What its record queues is pushed, and the event passes the filters that look at it, each shown what it asks for; what they queue is pushed.
 pub fn serve<'a>(
     codes: &'a [u32; 208],
     kinds: &'a [u8; 208],
