@@ -15,7 +15,7 @@ use Rattle.rules.specs.Places.{namedOf, presentNames}
 use Rattle.rules.specs.Hub.{slotAt}
 use Rattle.pad.specs.Found.{Placed, Named}
 use Rattle.gather.specs.EventPlaces.{PlaceIs, FoundIs, EventPlacesAre}
-use Rattle.rules.specs.Hub.{hatPlaceOf, partnerPlaceOf}
+use Rattle.rules.specs.Hub.{partnerPlaceOf}
 use Rattle.filters.specs.Converted.{ConvertedIs}
 use Rattle.turn.specs.Turn.{RingIs}
 use Rattle.lines.specs.Text.{numberText, hexText, wordOf, lineOf, stoppedLine, heldOf, linesOf}
@@ -42,12 +42,9 @@ pub unique-find : (codes kinds names renames : List ℕ) (renamed hasbutton : Li
     → One (FoundIs codes kinds names renames renamed hasbutton p code)
 unique-find codes kinds names renames renamed hasbutton p code = one-owed _ (λ r w. w .is)
 
--- the three below, and any other that answers a place
+-- the two below, and any other that answers a place
 pub unique-place : (place : ℕ) → One (PlaceIs place)
 unique-place place = one-owed _ (λ r w. w .is)
-
-pub unique-hat-place : (codes : List ℕ) (p name code : ℕ) → One (PlaceIs (hatPlaceOf codes p name code))
-unique-hat-place codes p name code = unique-place _
 
 pub unique-present-place : (names renames : List ℕ) (renamed : List Bool) (p name : ℕ)
     → One (PlaceIs (namedOf (presentNames names renames renamed p) p name))
