@@ -1,6 +1,6 @@
 /* Copperyarn for C (C11) and C++ (C++17): up to four gamepads, raw records in, named events out, filtered and in order, with the state that they leave.
  *
- * A hub is one struct, `copperyarn_hub`, of some 15 kilobytes, wherever you put it: a static, a local, a part of your own. Every call takes a pointer to it.
+ * A hub is one struct, `copperyarn_hub`, of some 16 kilobytes, wherever you put it: a static, a local, a part of your own. Every call takes a pointer to it.
  * No call allocates, none copies the hub, none keeps a pointer. Give a hub of any bytes to `copperyarn_new`; then describe each pad by its sheet
  * (`copperyarn_register`), hand batches of raw records to `copperyarn_pump`, read the events that it writes, 22 bytes each, and ask for the state in between.
  * Every call ends with an answer for every input: bad input is refused by a number from 1 to 16 (`copperyarn_sentence` says it in words), and 0 is served.
@@ -154,6 +154,7 @@ typedef struct copperyarn_button_answer {
     float value;
     uint64_t stamp; /* the time of the event that wrote it */
     uint64_t counter; /* the hub's counter then */
+    uint64_t since; /* when it last went from not pressed to pressed, which repeats and releases leave; 0 where it never did */
 } copperyarn_button_answer;
 
 typedef struct copperyarn_axis_answer {
@@ -204,7 +205,7 @@ typedef struct copperyarn_hub {
     bool hasbutton[208];
     bool hasaxis[208];
     float values[1109];
-    uint64_t times[900];
+    uint64_t times[1109];
     bool marks[627];
     uint8_t queuebytes[192];
     uint32_t queuecodes[64];

@@ -51,7 +51,7 @@ COPPERYARN_AT(copperyarn_number_answer, refusal, 0);
 COPPERYARN_AT(copperyarn_number_answer, known, 1);
 COPPERYARN_AT(copperyarn_number_answer, number, 4);
 
-COPPERYARN_SIZE(copperyarn_button_answer, 24);
+COPPERYARN_SIZE(copperyarn_button_answer, 32);
 COPPERYARN_AT(copperyarn_button_answer, refusal, 0);
 COPPERYARN_AT(copperyarn_button_answer, known, 1);
 COPPERYARN_AT(copperyarn_button_answer, pressed, 2);
@@ -59,6 +59,7 @@ COPPERYARN_AT(copperyarn_button_answer, repeating, 3);
 COPPERYARN_AT(copperyarn_button_answer, value, 4);
 COPPERYARN_AT(copperyarn_button_answer, stamp, 8);
 COPPERYARN_AT(copperyarn_button_answer, counter, 16);
+COPPERYARN_AT(copperyarn_button_answer, since, 24);
 
 COPPERYARN_SIZE(copperyarn_axis_answer, 24);
 COPPERYARN_AT(copperyarn_axis_answer, refusal, 0);
@@ -97,7 +98,7 @@ COPPERYARN_AT(copperyarn_head, flags, 53);
 COPPERYARN_AT(copperyarn_head, head, 77);
 COPPERYARN_AT(copperyarn_head, waiting, 78);
 
-COPPERYARN_SIZE(copperyarn_hub, 14672);
+COPPERYARN_SIZE(copperyarn_hub, 16344);
 COPPERYARN_AT(copperyarn_hub, head, 0);
 COPPERYARN_AT(copperyarn_hub, codes, 80);
 COPPERYARN_AT(copperyarn_hub, kinds, 912);
@@ -107,9 +108,9 @@ COPPERYARN_AT(copperyarn_hub, hasbutton, 1536);
 COPPERYARN_AT(copperyarn_hub, hasaxis, 1744);
 COPPERYARN_AT(copperyarn_hub, values, 1952);
 COPPERYARN_AT(copperyarn_hub, times, 6392);
-COPPERYARN_AT(copperyarn_hub, marks, 13592);
-COPPERYARN_AT(copperyarn_hub, queuebytes, 14219);
-COPPERYARN_AT(copperyarn_hub, queuecodes, 14412);
+COPPERYARN_AT(copperyarn_hub, marks, 15264);
+COPPERYARN_AT(copperyarn_hub, queuebytes, 15891);
+COPPERYARN_AT(copperyarn_hub, queuecodes, 16084);
 
 COPPERYARN_SIZE(copperyarn_lent_done, 88);
 COPPERYARN_AT(copperyarn_lent_done, head, 0);

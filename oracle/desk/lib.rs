@@ -1,6 +1,7 @@
 //! The player's desk: one hub of 01, played on gilrs. A call that 01 refuses is answered by number and not given to the
 //! crate. This crate is built twice, over gilrs with the Y axis reversed and not.
 
+mod held;
 mod hub;
 mod own_loop;
 mod plan;
@@ -9,11 +10,13 @@ mod query;
 mod repeat;
 mod translate;
 
+use crate::held::Held;
 use crate::hub::Hub;
 use crate::own_loop::OwnLoop;
 use crate::plan::Plan;
+use crate::translate::to_crate;
 use reading::event::Event;
-use reading::scenario::{Operation, Settings};
+use reading::scenario::{self, Operation, Settings};
 use reading::sheet::{self, Sheet};
 use reading::{refusal, Desk, INSERT_LIMIT, MOST_PADS};
 
@@ -22,6 +25,7 @@ struct CrateDesk {
     plan: Plan,
     registered: usize,
     hub: Hub,
+    held: Held,
     own_loop: OwnLoop,
 }
 
@@ -33,6 +37,7 @@ pub fn open(settings: Settings, ahead: &[Operation<'_>], own_loop: bool) -> Box<
         settings,
         registered: 0,
         hub: Hub::open(&settings, &plan, false, false),
+        held: Held::default(),
         own_loop: if own_loop { OwnLoop::open(&settings, &plan) } else { OwnLoop::absent() },
         plan,
     })
@@ -62,7 +67,8 @@ impl CrateDesk {
             Operation::Register(bytes) => self.register(bytes)?,
             Operation::Rename(pad, list) => self.rename(pad, list)?,
             Operation::Pump(call) => {
-                let done = pump::pump(&mut self.hub, &self.plan.pads[..self.registered], &self.settings, &call);
+                let pads = &self.plan.pads[..self.registered];
+                let done = pump::pump(&mut self.hub, &mut self.held, pads, &self.settings, &call);
                 self.own_loop.pump(&done);
                 done.lines()
             }
@@ -75,6 +81,7 @@ impl CrateDesk {
             Operation::Inc => self.count(|hub| hub.gilrs.inc()),
             Operation::Counter => self.count(|_| ()),
             Operation::ResetCounter => self.count(|hub| hub.gilrs.reset_counter()),
+            Operation::ByCode(scenario::HELD_SINCE, pad, code) => one(self.held.since(&self.hub, self.pad(pad)?, code)),
             Operation::ByCode(opcode, pad, code) => one(query::by_code(&self.hub, opcode, self.pad(pad)?, code)),
             Operation::ByName(opcode, pad, name) => one(query::by_name(&self.hub, opcode, self.pad(pad)?, name)),
             Operation::Stands(pad) => one(format!("STANDS {}", u8::from(self.hub.pad(self.pad(pad)?).is_connected()))),
@@ -120,7 +127,7 @@ impl CrateDesk {
 
     fn update(&mut self, bytes: &[u8]) -> Result<Vec<String>, u8> {
         let event = Event::read(bytes, &self.plan.pads[..self.registered])?;
-        self.hub.update(&event);
+        self.held.update(&mut self.hub, &to_crate(&event));
         self.own_loop.follow(|hub| hub.update(&event));
         Ok(one("UPDATED"))
     }

@@ -2,6 +2,7 @@
 //! `next_event` (of a hub whose own loop neither filters nor updates, so that it hands out what `next_event_priv`
 //! does), its filters in its order, its `update`. Between turns the pump can stop where 01 says.
 
+use crate::held::Held;
 use crate::hub::Hub;
 use crate::translate::from_crate;
 use gilrs::ev::filter::{axis_dpad_to_button, deadzone, Jitter};
@@ -46,7 +47,7 @@ impl Pumped {
     }
 }
 
-pub fn pump(hub: &mut Hub, pads: &[Sheet], settings: &Settings, call: &Pump<'_>) -> Pumped {
+pub fn pump(hub: &mut Hub, held: &mut Held, pads: &[Sheet], settings: &Settings, call: &Pump<'_>) -> Pumped {
     let mut done = Pumped {
         reason: Reason::Drained,
         place: call.place,
@@ -71,7 +72,7 @@ pub fn pump(hub: &mut Hub, pads: &[Sheet], settings: &Settings, call: &Pump<'_>)
             }
         }
         done.steps += 1;
-        let written = turn(hub, settings);
+        let written = turn(hub, held, settings);
         done.ends_written = written.is_some();
         done.events.extend(written);
     };
@@ -96,7 +97,7 @@ fn stop(call: &Pump<'_>, done: &Pumped, empty: bool) -> Option<Reason> {
 }
 
 /// One turn of `next_event_inner`'s loop; the event it hands out, if it is not skipped.
-fn turn(hub: &mut Hub, settings: &Settings) -> Option<Event> {
+fn turn(hub: &mut Hub, held: &mut Held, settings: &Settings) -> Option<Event> {
     let mut taken = hub.gilrs.next_event();
     if settings.has(FILTERS_ON) {
         taken = taken
@@ -109,7 +110,7 @@ fn turn(hub: &mut Hub, settings: &Settings) -> Option<Event> {
         return None;
     }
     if settings.has(UPDATES_ON) {
-        hub.gilrs.update(&event);
+        held.update(hub, &event);
     }
     Some(from_crate(&event))
 }

@@ -1,14 +1,17 @@
 //! Random scenarios. Each is played while it is made, so that a later pump can go on at the place where an earlier one
-//! stopped, and a repeat can be given back to `update`.
+//! stopped, and a repeat can be given back to `update`. Since when a button is held is asked wherever one was heard of:
+//! behind its record, an event given to `update`, a pump's events, a dump. That draws no number: the other operations
+//! of a seed are the same with it and without.
 
 use crate::pads;
 use crate::play;
 use crate::random::Random;
 use crate::traffic::Traffic;
-use reading::bytes::put;
-use reading::event::Event;
+use reading::bytes::{field32, put};
+use reading::event::{self, Event};
 use reading::sheet::Sheet;
 use reading::{names, scenario, Desk, LAST_TIME, LONGEST_BUFFER, LONGEST_REPEAT, MOST_PADS};
+use std::collections::BTreeSet;
 
 struct Scene<'a> {
     random: &'a mut Random,
@@ -23,7 +26,7 @@ struct Scene<'a> {
     place: usize,
 }
 
-/// One scenario, from its `new` to its last dump.
+/// One scenario, from its `new` to its last dump and what is asked of it.
 pub fn scene(random: &mut Random) -> Vec<u8> {
     let traffic = Traffic::new(random);
     let (sheets, renames) = preparation(random);
@@ -40,7 +43,7 @@ pub fn scene(random: &mut Random) -> Vec<u8> {
     for _ in 0..scene.random.below(8) {
         scene.query();
     }
-    scene.play(scenario::DUMP, &[]);
+    scene.dump();
     scene.bytes
 }
 
@@ -136,6 +139,9 @@ impl Scene<'_> {
     fn give(&mut self, opcode: u8) {
         let event = self.traffic.event_bytes(self.random);
         self.play(opcode, &event);
+        if opcode == scenario::UPDATE {
+            self.ask_of_event(&event);
+        }
     }
 
     /// A pair of axes that clear each other, pumped a few steps at a time with a look at the flags in between.
@@ -147,7 +153,7 @@ impl Scene<'_> {
         for allowance in [2, 1, 2] {
             self.place = 0;
             self.pump_with(LONGEST_BUFFER, allowance);
-            self.play(scenario::DUMP, &[]);
+            self.dump();
         }
     }
 
@@ -207,8 +213,9 @@ impl Scene<'_> {
         put(&mut payload, allowance, 2);
         payload.extend_from_slice(&self.batch);
         let lines = self.play(scenario::PUMP, &payload);
+        self.ask_of_lines(&lines);
         if lines.last().map_or(false, |last| last.starts_with("PAUSED")) && self.random.chance(30) {
-            self.play(scenario::DUMP, &[]);
+            self.dump();
         }
         if let Some(last) = lines.last() {
             let mut words = last.split(' ').rev();
@@ -259,6 +266,7 @@ impl Scene<'_> {
                 _ => break,
             };
             self.play(scenario::UPDATE, &event.to_bytes());
+            self.ask_of_event(&event.to_bytes());
             if self.random.chance(50) {
                 now = (event.time + every - self.random.below(2)).min(LAST_TIME);
             }
@@ -290,6 +298,46 @@ impl Scene<'_> {
             }
         }
         self.play(opcode, &payload);
+        if opcode == scenario::BUTTON_BY_CODE {
+            self.play(scenario::HELD_SINCE, &payload);
+        }
+    }
+
+    /// Since when the button is held that an event is about. Of a damaged event it may be any pad and code.
+    fn ask_of_event(&mut self, bytes: &[u8]) {
+        if bytes.len() == event::SIZE && (event::PRESSED..=event::CHANGED).contains(&bytes[3]) {
+            self.ask_since(bytes[4], field32(bytes, 6));
+        }
+    }
+
+    /// The same once for each button among the events that a pump wrote.
+    fn ask_of_lines(&mut self, lines: &[String]) {
+        let mut asked = BTreeSet::new();
+        for words in lines.iter().map(|line| line.split(' ').collect::<Vec<_>>()) {
+            if event::WORDS[usize::from(event::PRESSED)..=usize::from(event::CHANGED)].contains(&words[0]) {
+                asked.insert((pad_in(words[1]), code_in(words[3])));
+            }
+        }
+        asked.iter().for_each(|(pad, code)| self.ask_since(*pad, *code));
+    }
+
+    fn ask_since(&mut self, pad: u8, code: u32) {
+        let mut payload = vec![pad];
+        put(&mut payload, u64::from(code), 4);
+        self.play(scenario::HELD_SINCE, &payload);
+    }
+
+    /// A dump, and for each of its buttons since when it is held, which the dump's lines do not tell.
+    fn dump(&mut self) {
+        let mut pad = 0;
+        for line in self.play(scenario::DUMP, &[]) {
+            let words: Vec<&str> = line.split(' ').collect();
+            match words[0] {
+                "DUMP" => pad = pad_in(words[1]),
+                "B" => self.ask_since(pad, code_in(words[1])),
+                _ => (),
+            }
+        }
     }
 
     /// A name between the two, a direction, or one at an edge of the table.
@@ -327,6 +375,14 @@ fn thresholds(random: &mut Random) -> (f32, f32) {
     }
 }
 
+fn pad_in(word: &str) -> u8 {
+    word.parse().expect("a pad")
+}
+
+fn code_in(word: &str) -> u32 {
+    u32::from_str_radix(word, 16).expect("a code")
+}
+
 /// The event of a REPEATED line.
 fn repeated(line: &str) -> Option<Event> {
     let words: Vec<&str> = line.split(' ').collect();
@@ -334,7 +390,7 @@ fn repeated(line: &str) -> Option<Event> {
         return None;
     }
     Some(Event {
-        kind: reading::event::REPEATED,
+        kind: event::REPEATED,
         pad: words[1].parse().ok()?,
         name: words[2].parse().ok()?,
         code: u32::from_str_radix(words[3], 16).ok()?,

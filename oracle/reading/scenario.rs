@@ -27,6 +27,7 @@ pub const THRESHOLD: u8 = 21;
 pub const STANDS: u8 = 22;
 pub const WAITING: u8 = 23;
 pub const DUMP: u8 = 24;
+pub const HELD_SINCE: u8 = 42;
 
 /// Bits of the flags byte of `new`.
 pub const Y_REVERSED: u8 = 1;
@@ -117,9 +118,10 @@ fn read_one(opcode: u8, payload: &[u8]) -> Option<Operation<'_>> {
         (INC, 0) => Operation::Inc,
         (COUNTER, 0) => Operation::Counter,
         (RESET_COUNTER, 0) => Operation::ResetCounter,
-        (PRESSED_BY_CODE | VALUE_BY_CODE | BUTTON_BY_CODE | AXIS_BY_CODE | NAME_OF_CODE | THRESHOLD, 5) => {
-            Operation::ByCode(opcode, payload[0], field32(payload, 1))
-        }
+        (
+            PRESSED_BY_CODE | VALUE_BY_CODE | BUTTON_BY_CODE | AXIS_BY_CODE | NAME_OF_CODE | THRESHOLD | HELD_SINCE,
+            5,
+        ) => Operation::ByCode(opcode, payload[0], field32(payload, 1)),
         (PRESSED_BY_NAME | VALUE_BY_NAME | BUTTON_BY_NAME | AXIS_BY_NAME | CODE_OF_NAME, 2) => {
             Operation::ByName(opcode, payload[0], payload[1])
         }

@@ -136,6 +136,15 @@ static void button(const char *word, copperyarn_button_answer answer) {
             word, copperyarn_bits(answer.value), answer.pressed, answer.repeating, answer.counter, answer.stamp);
 }
 
+static void since(copperyarn_button_answer answer) {
+    if (answer.refusal != 0)
+        refused(answer.refusal);
+    else if (!answer.known)
+        puts("ABSENT");
+    else
+        printf("SINCE %" PRIu64 "\n", answer.since);
+}
+
 static void axis(const char *word, copperyarn_axis_answer answer) {
     if (answer.refusal != 0)
         refused(answer.refusal);
@@ -183,6 +192,7 @@ static void ask(uint8_t opcode, const uint8_t *bytes, size_t size) {
     case 20: code_of(copperyarn_code_of_name(&hub, pad, name)); break;
     case 21: value("THRESHOLD", copperyarn_deadzone_threshold(&hub, pad, code)); break;
     case 22: truth("STANDS", copperyarn_is_connected(&hub, pad)); break;
+    case 42: since(copperyarn_button_data_by_code(&hub, pad, code)); break;
     default: CHECK(false);
     }
 }

@@ -229,6 +229,7 @@ static void queries(void) {
     CHECK(copperyarn_is_pressed(&hub, 0, COPPERYARN_BUTTON_SOUTH).is && copperyarn_is_pressed_by_code(&hub, 0, SOUTH).is);
     CHECK(copperyarn_value(&hub, 0, COPPERYARN_AXIS_LEFT_STICK_X).value == 1.0f && copperyarn_value_by_code(&hub, 0, STICK).value == 1.0f);
     CHECK(copperyarn_button_data(&hub, 0, COPPERYARN_BUTTON_SOUTH).stamp == 5 && copperyarn_button_data_by_code(&hub, 0, SOUTH).value == 1.0f);
+    CHECK(copperyarn_button_data(&hub, 0, COPPERYARN_BUTTON_SOUTH).since == 5 && copperyarn_button_data_by_code(&hub, 0, SOUTH).since == 5);
     CHECK(copperyarn_axis_data(&hub, 0, COPPERYARN_AXIS_LEFT_STICK_X).stamp == 6 && copperyarn_axis_data_by_code(&hub, 0, STICK).value == 1.0f);
     CHECK(copperyarn_deadzone_threshold(&hub, 0, STICK).known && !copperyarn_deadzone_threshold(&hub, 0, SOUTH).known);
     CHECK(copperyarn_axis_or_btn_name(&hub, 0, STICK).number == COPPERYARN_AXIS_LEFT_STICK_X);
@@ -237,6 +238,7 @@ static void queries(void) {
     CHECK(copperyarn_is_pressed_by_code(&hub, 0, NOWHERE).refusal == 0 && !copperyarn_is_pressed_by_code(&hub, 0, NOWHERE).is);
     CHECK(copperyarn_value_by_code(&hub, 0, NOWHERE).known && copperyarn_value_by_code(&hub, 0, NOWHERE).value == 0.0f);
     CHECK(!copperyarn_button_data_by_code(&hub, 0, NOWHERE).known && !copperyarn_axis_or_btn_name(&hub, 0, NOWHERE).known);
+    CHECK(copperyarn_button_data_by_code(&hub, 0, NOWHERE).since == 0 && copperyarn_button_data_by_code(&hub, 4, SOUTH).since == 0);
 }
 
 static void sentences(void) {

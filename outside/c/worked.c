@@ -106,7 +106,8 @@ static void repeats(void) {
         CHECK(copperyarn_update(&hub, event, sizeof event) == 0);
         due++;
     }
-    CHECK(due == 17 && copperyarn_button_data(&hub, 0, COPPERYARN_BUTTON_SOUTH).repeating);
+    copperyarn_button_answer held = copperyarn_button_data(&hub, 0, COPPERYARN_BUTTON_SOUTH);
+    CHECK(due == 17 && held.pressed && held.repeating && held.stamp == 980 && held.since == 0);
 }
 
 static void counter(void) {

@@ -30,7 +30,7 @@ impl Default for Settings {
 
 /// Up to four pads: takes raw records, hands out events, and keeps the state that they leave.
 ///
-/// It is some 15 kilobytes behind one pointer, allocated by `new` and by `clone`. Of the other calls `rename` alone allocates, for as long as it runs. A hub may
+/// It is some 16 kilobytes behind one pointer, allocated by `new` and by `clone`. Of the other calls `rename` alone allocates, for as long as it runs. A hub may
 /// be sent to another thread; a clone goes its own way.
 #[derive(Clone, PartialEq)]
 pub struct Hub {

@@ -6,7 +6,7 @@ pub type Bytes = [u8; 208];
 pub type Bools = [bool; 208];
 /// The columns of the records, packed by type.
 pub type Values = [f32; 1109];
-pub type Times = [u64; 900];
+pub type Times = [u64; 1109];
 pub type Marks = [bool; 627];
 pub type QueueBytes = [u8; 192];
 pub type QueueCodes = [u32; 64];
@@ -85,7 +85,7 @@ impl Fields {
         hasbutton: [false; 208],
         hasaxis: [false; 208],
         values: [0.0; 1109],
-        times: [0; 900],
+        times: [0; 1109],
         marks: [false; 627],
         queuebytes: [0; 192],
         queuecodes: [0; 64],
@@ -129,6 +129,7 @@ pub struct Button {
     pub value: f32,
     pub stamp: u64,
     pub counter: u64,
+    pub since: u64,
 }
 
 #[repr(C)]

@@ -153,9 +153,9 @@ fn known_number(answer: layout::Number) -> Result<Option<u32>, Refusal> {
 }
 
 fn button(answer: layout::Button) -> Result<Option<ButtonData>, Refusal> {
-    let layout::Button { refusal, known, pressed, repeating, value, stamp, counter } = answer;
+    let layout::Button { refusal, known, pressed, repeating, value, stamp, counter, since } = answer;
     judged(refusal)?;
-    Ok(known.then_some(ButtonData { pressed, repeating, value, counter, timestamp: stamp }))
+    Ok(known.then_some(ButtonData { pressed, repeating, value, counter, timestamp: stamp, since }))
 }
 
 fn axis(answer: layout::Axis) -> Result<Option<AxisData>, Refusal> {

@@ -30,7 +30,8 @@ fn the_answers_have_their_sizes() {
     assert_eq!((size_of::<Pad>(), size_of::<Truth>(), size_of::<Due>()), (2, 2, 2));
     assert_eq!((size_of::<Value>(), offset_of!(Value, value)), (8, 4));
     assert_eq!((size_of::<Number>(), offset_of!(Number, number)), (8, 4));
-    assert_eq!((size_of::<Button>(), offset_of!(Button, value), offset_of!(Button, stamp)), (24, 4, 8));
+    assert_eq!((size_of::<Button>(), offset_of!(Button, value), offset_of!(Button, stamp)), (32, 4, 8));
+    assert_eq!((offset_of!(Button, counter), offset_of!(Button, since)), (16, 24));
     assert_eq!((size_of::<Axis>(), offset_of!(Axis, value), offset_of!(Axis, stamp)), (24, 4, 8));
     assert_eq!((size_of::<Report>(), offset_of!(Report, place), offset_of!(Report, steps)), (32, 8, 24));
 }
@@ -43,7 +44,7 @@ fn the_changed_head_comes_first() {
 }
 
 #[test]
-fn a_hub_is_some_15_kilobytes_behind_one_pointer() {
-    assert_eq!(size_of::<Fields>(), 14_672);
+fn a_hub_is_some_16_kilobytes_behind_one_pointer() {
+    assert_eq!(size_of::<Fields>(), 16_344);
     assert_eq!(size_of::<copperyarn::Hub>(), size_of::<usize>());
 }

@@ -62,6 +62,7 @@ fn blank() -> ButtonData
         counter: 0,
         pressed: false,
         repeating: false,
+        since: 0,
     }
 }
 

@@ -42,14 +42,17 @@ buttonStamps = 0
 abbrev pub buttonCounters : ℕ
 buttonCounters = 209
 
+abbrev pub buttonSinces : ℕ
+buttonSinces = 418
+
 abbrev pub axisStamps : ℕ
-axisStamps = 418
+axisStamps = 627
 
 abbrev pub axisCounters : ℕ
-axisCounters = 627
+axisCounters = 836
 
 abbrev pub queueTimes : ℕ
-queueTimes = 836
+queueTimes = 1045
 
 -- of the marks
 abbrev pub pressedMarks : ℕ
@@ -108,6 +111,7 @@ buttonIn vs ts ms k =
       counter = getD ts (buttonCounters + k) 0;
       pressed = getD ms (pressedMarks + k) false;
       repeating = getD ms (repeatingMarks + k) false;
+      since = getD ts (buttonSinces + k) 0;
     }
 
 abbrev pub axisIn : List Float → List ℕ → ℕ → AxisData

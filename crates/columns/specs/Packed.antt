@@ -16,7 +16,7 @@ use Rattle.rules.specs.Names.{queueRoom}
 use Rattle.columns.specs.Tabled.{tabled}
 use Rattle.columns.specs.Columns.{places, valuesLong, timesLong, marksLong, bytesLong, elementsOf, buttonsOf, axesOf, slotsOf, elementIn, buttonIn, axisIn, slotIn}
 use Rattle.columns.specs.Columns.{buttonValues, axisValues, lows, ranges, thresholds, queueValues}
-use Rattle.columns.specs.Columns.{buttonStamps, buttonCounters, axisStamps, axisCounters, queueTimes}
+use Rattle.columns.specs.Columns.{buttonStamps, buttonCounters, buttonSinces, axisStamps, axisCounters, queueTimes}
 use Rattle.columns.specs.Columns.{pressedMarks, repeatingMarks, oddMarks, queueKinds, queuePads, queueNames}
 
 -- ---- the columns, in their order
@@ -34,9 +34,10 @@ abbrev pub packedTimes : List ButtonData → List AxisData → List Slot → Lis
 packedTimes buttons axes slots =
     map (λ (b : ButtonData). b .stamp) buttons
     ++ (map (λ (b : ButtonData). b .counter) buttons
+    ++ (map (λ (b : ButtonData). b .since) buttons
     ++ (map (λ (a : AxisData). a .stamp) axes
     ++ (map (λ (a : AxisData). a .counter) axes
-    ++ map (λ (s : Slot). s .time) slots)))
+    ++ map (λ (s : Slot). s .time) slots))))
 
 abbrev pub packedMarks : List ButtonData → List Element → List Bool
 packedMarks buttons elements =
@@ -121,9 +122,10 @@ module _ (vs : List Float) (ts : List ℕ) (ms : List Bool) (bs cs : List ℕ) w
       let f : ℕ → ℕ = λ k. getD ts k 0 in
       column (λ (b : ButtonData). b .stamp) button f places buttonStamps _ _ (λ k. refl)
       (column (λ (b : ButtonData). b .counter) button f places buttonCounters _ _ (λ k. refl)
+      (column (λ (b : ButtonData). b .since) button f places buttonSinces _ _ (λ k. refl)
       (column (λ (a : AxisData). a .stamp) axis f places axisStamps _ _ (λ k. refl)
       (column (λ (a : AxisData). a .counter) axis f places axisCounters _ _ (λ k. refl)
-      (last-column (λ (s : Slot). s .time) slot f queueRoom queueTimes (λ k. refl)))))
+      (last-column (λ (s : Slot). s .time) slot f queueRoom queueTimes (λ k. refl))))))
       ∙ whole timesLong ts 0 e
 
   pub marks-packed : length ms ≡ marksLong → packedMarks (buttonsOf vs ts ms) (elementsOf vs ms) ≡ ms

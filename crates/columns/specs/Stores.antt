@@ -18,7 +18,7 @@ use Rattle.rules.specs.declared.Slot.{Slot}
 use Rattle.rules.specs.Names.{nowhere, queueRoom}
 use Rattle.columns.specs.Tabled.{tabled-same, tabled-set}
 use Rattle.columns.specs.Columns.{places, valuesLong, timesLong, marksLong, bytesLong, elementIn, buttonIn, axisIn, slotIn, elementsOf, buttonsOf, axesOf, slotsOf}
-use Rattle.columns.specs.Columns.{buttonValues, axisValues, lows, ranges, thresholds, queueValues, buttonStamps, buttonCounters, axisStamps, axisCounters, queueTimes, pressedMarks, repeatingMarks, oddMarks, queueKinds, queuePads, queueNames}
+use Rattle.columns.specs.Columns.{buttonValues, axisValues, lows, ranges, thresholds, queueValues, buttonStamps, buttonCounters, buttonSinces, axisStamps, axisCounters, queueTimes, pressedMarks, repeatingMarks, oddMarks, queueKinds, queuePads, queueNames}
 
 -- ---- one number stored at k of the column that starts at s, and one read at j of the column that starts at s'
 
@@ -99,7 +99,7 @@ module _ (vs : List Float) (ts : List ℕ) (ms : List Bool) (k : ℕ) (b : Butto
   button-vs = set vs (buttonValues + k) (b .value)
 
   abbrev button-ts : List ℕ
-  button-ts = set (set ts (buttonStamps + k) (b .stamp)) (buttonCounters + k) (b .counter)
+  button-ts = set (set (set ts (buttonStamps + k) (b .stamp)) (buttonCounters + k) (b .counter)) (buttonSinces + k) (b .since)
 
   abbrev button-ms : List Bool
   button-ms = set (set ms (pressedMarks + k) (b .pressed)) (repeatingMarks + k) (b .repeating)

@@ -5,7 +5,7 @@ ghost use Prim.Native.Nat.{_<_, _≤_};
 ghost use lib.ListN.{getD, length};
 ghost use Rattle.rules.specs.Names.{nowhere, queueRoom};
 ghost use Rattle.rules.specs.Hub.{pastElement, pastButton, pastAxis, pastSlot};
-ghost use Rattle.columns.specs.Columns.{elementsOf, buttonsOf, axesOf, slotsOf};
+ghost use Rattle.columns.specs.Columns.{valuesLong, timesLong, marksLong, bytesLong, elementsOf, buttonsOf, axesOf, slotsOf};
 ghost use Rattle.columns.specs.Stores.{ButtonPut, AxisPut, ElementPut, SlotPut};
 ghost use Rattle.columns.specs.Blank.{Blank};
 use rules::AxisData;
@@ -30,18 +30,20 @@ const THRESHOLDS: usize = 836;
 
 const QUEUE_VALUES: usize = 1045;
 
-// Stamps and counters of the buttons, of the axes, and the times of the queue.
-pub type Times = [u64; 900];
+// Stamps and counters of the buttons and since when they are held, stamps and counters of the axes, and the times of the queue.
+pub type Times = [u64; 1109];
 
 const BUTTON_STAMPS: usize = 0;
 
 const BUTTON_COUNTERS: usize = 209;
 
-const AXIS_STAMPS: usize = 418;
+const BUTTON_SINCES: usize = 418;
 
-const AXIS_COUNTERS: usize = 627;
+const AXIS_STAMPS: usize = 627;
 
-const QUEUE_TIMES: usize = 836;
+const AXIS_COUNTERS: usize = 836;
+
+const QUEUE_TIMES: usize = 1045;
 
 // Pressed and repeating of the buttons, and odd of the elements.
 pub type Marks = [bool; 627];
@@ -96,31 +98,31 @@ fn codes_in(s: &[u32]) -> usize
 }
 
 fn whole_values(s: &Values)
-    ensures { λ _. ⌜ length (now (s .entry)) ≡ 1109 ⌝ }
+    ensures { λ _. ⌜ length (now (s .entry)) ≡ valuesLong ⌝ }
 {
     values_in(s);
 }
 
 fn whole_times(s: &Times)
-    ensures { λ _. ⌜ length (now (s .entry)) ≡ 900 ⌝ }
+    ensures { λ _. ⌜ length (now (s .entry)) ≡ timesLong ⌝ }
 {
     times_in(s);
 }
 
 fn whole_marks(s: &Marks)
-    ensures { λ _. ⌜ length (now (s .entry)) ≡ 627 ⌝ }
+    ensures { λ _. ⌜ length (now (s .entry)) ≡ marksLong ⌝ }
 {
     marks_in(s);
 }
 
 fn whole_bytes(s: &QueueBytes)
-    ensures { λ _. ⌜ length (now (s .entry)) ≡ 192 ⌝ }
+    ensures { λ _. ⌜ length (now (s .entry)) ≡ bytesLong ⌝ }
 {
     bytes_in(s);
 }
 
 fn whole_codes(s: &QueueCodes)
-    ensures { λ _. ⌜ length (now (s .entry)) ≡ 64 ⌝ }
+    ensures { λ _. ⌜ length (now (s .entry)) ≡ queueRoom ⌝ }
 {
     codes_in(s);
 }
@@ -151,6 +153,7 @@ pub fn button_at(values: &Values, times: &Times, marks: &Marks, k: usize) -> But
         counter: times[BUTTON_COUNTERS + k],
         pressed: marks[PRESSED + k],
         repeating: marks[REPEATING + k],
+        since: times[BUTTON_SINCES + k],
     }
 }
 
@@ -208,6 +211,7 @@ pub fn put_button(
     times[BUTTON_COUNTERS + k] = b.counter;
     marks[PRESSED + k] = b.pressed;
     marks[REPEATING + k] = b.repeating;
+    times[BUTTON_SINCES + k] = b.since;
 }
 
 // Stores an axis record; every other cell stays.
@@ -273,7 +277,7 @@ pub fn blank(
     ensures { λ _. ⌜ Blank (now (values .exit)) (now (times .exit)) (now (marks .exit)) (now (queuebytes .exit)) (now (queuecodes .exit)) ⌝ }
 {
     *values = [0.0; 1109];
-    *times = [0u64; 900];
+    *times = [0u64; 1109];
     *marks = [false; 627];
     *queuebytes = [0u8; 192];
     *queuecodes = [0u32; 64];

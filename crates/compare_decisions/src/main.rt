@@ -253,6 +253,7 @@ fn button(case: &[u8; 104], marks: u8, n: usize) -> ButtonData
         counter: compare_cases::long(case, n + 2),
         pressed: compare_cases::mark(marks, 2),
         repeating: compare_cases::mark(marks, 4),
+        since: 0,
     }
 }
 
@@ -343,6 +344,7 @@ fn repeated(case: &[u8; 104]) -> bool {
         counter: 0,
         pressed: compare_cases::mark(marks, 2),
         repeating: compare_cases::mark(marks, 4),
+        since: 0,
     };
     let after = compare_cases::long(case, 2);
     let every = compare_cases::long(case, 3);

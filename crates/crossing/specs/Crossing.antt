@@ -74,6 +74,7 @@ knownButton b =
       value = b .value;
       stamp = b .stamp;
       counter = b .counter;
+      since = b .since;
     }
 
 abbrev pub noButton : ℕ → Button
@@ -86,6 +87,7 @@ noButton number =
       value = zero32;
       stamp = 0;
       counter = 0;
+      since = 0;
     }
 
 abbrev pub buttonOf : ButtonAnswer → Button
@@ -148,7 +150,7 @@ number-says (numberAnswer.Refused number) = refl
 
 -- a button's record as the law book lists it
 abbrev pub buttonValues : Button → List ℕ
-buttonValues b = toBits binary32 (b .value) ∷ b .stamp ∷ b .counter ∷ bit (b .pressed) ∷ bit (b .repeating) ∷ []
+buttonValues b = toBits binary32 (b .value) ∷ b .stamp ∷ b .counter ∷ bit (b .pressed) ∷ bit (b .repeating) ∷ b .since ∷ []
 
 pub button-says : (a : ButtonAnswer) → said (buttonOf a .refusal) (buttonOf a .known) (buttonValues (buttonOf a)) ≡ buttonSays a
 button-says (buttonAnswer.Data b) = refl

@@ -64,6 +64,7 @@ pub struct Button {
     pub value: f32,
     pub stamp: u64,
     pub counter: u64,
+    pub since: u64,
 }
 
 #[repr(C)]
@@ -207,6 +208,7 @@ fn known_button(b: ButtonData) -> Button
         value: b.value,
         stamp: b.stamp,
         counter: b.counter,
+        since: b.since,
     }
 }
 
@@ -221,6 +223,7 @@ fn no_button(number: u8) -> Button
         value: 0.0,
         stamp: 0,
         counter: 0,
+        since: 0,
     }
 }
 

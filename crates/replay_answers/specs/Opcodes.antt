@@ -78,3 +78,8 @@ waiting = 23
 
 abbrev pub dump : ℕ
 dump = 24
+
+-- ---- 42: since when a button is held (W-206)
+
+abbrev pub since : ℕ
+since = 42

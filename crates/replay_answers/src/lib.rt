@@ -26,6 +26,7 @@ pub enum Asked {
     Repeat(RepeatAnswer),
     Waiting(u8),
     Counter(u64),
+    Since(ButtonAnswer),
     Nothing,
 }
 

@@ -120,6 +120,13 @@ code (numberAnswer.Number n) = word (C ∷ O ∷ D ∷ E ∷ space ∷ []) ∷ h
 code numberAnswer.Absent = absent
 code (numberAnswer.Refused n) = refused n
 
+-- ---- 42: since when a button is held
+
+abbrev pub since : ButtonAnswer → List Piece
+since (buttonAnswer.Data b) = labelled (S ∷ I ∷ N ∷ C ∷ E ∷ space ∷ []) (b .since) newline ∷ []
+since buttonAnswer.Absent = absent
+since (buttonAnswer.Refused n) = refused n
+
 -- ---- any operation
 
 -- that leaves the hub as it is
@@ -135,6 +142,7 @@ queryPieces (asked.Code a) = code a
 queryPieces (asked.Threshold a) = value (T ∷ H ∷ R ∷ E ∷ S ∷ H ∷ O ∷ L ∷ D ∷ space ∷ []) a
 queryPieces (asked.Stands a) = truth (S ∷ T ∷ A ∷ N ∷ D ∷ S ∷ space ∷ []) a
 queryPieces (asked.Waiting n) = labelled (W ∷ A ∷ I ∷ T ∷ I ∷ N ∷ G ∷ space ∷ []) n newline ∷ []
+queryPieces (asked.Since a) = since a
 queryPieces asked.Nothing = noOperation
 
 -- that changes it; a pump's events stand in the out buffer

@@ -170,6 +170,16 @@ fn button(text: &mut [u8], at: usize, answer: ButtonAnswer) -> usize
     }
 }
 
+fn since(text: &mut [u8], at: usize, answer: ButtonAnswer) -> usize
+    ensures { λ r. ⌜ written (now (text .exit)) r ≡ laidAll (law.since answer) (written (now (text .entry)) at) ⌝ }
+{
+    match answer {
+        ButtonAnswer::Data(b) => lines::labelled(text, at, b"SINCE ", b.since, NEWLINE),
+        ButtonAnswer::Absent => absent(text, at),
+        ButtonAnswer::Refused(number) => refused(text, at, number),
+    }
+}
+
 fn stick(text: &mut [u8], at: usize, answer: AxisAnswer) -> usize
     ensures { λ r. ⌜ written (now (text .exit)) r ≡ laidAll (law.stick answer) (written (now (text .entry)) at) ⌝ }
 {
@@ -225,6 +235,7 @@ pub fn query_line(text: &mut [u8], at: usize, answer: Asked) -> usize
         Asked::Repeat(a) => repeated(text, at, a),
         Asked::Waiting(n) => lines::labelled(text, at, b"WAITING ", n as u64, NEWLINE),
         Asked::Counter(n) => counted(text, at, n),
+        Asked::Since(a) => since(text, at, a),
         Asked::Nothing => none(text, at),
     }
 }

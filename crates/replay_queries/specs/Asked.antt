@@ -62,6 +62,11 @@ byName h opcode p name =
     (cond (eqb opcode opcodes.axisByName) (asked.Axis (axisByName h p name))
     (cond (eqb opcode opcodes.codeOfName) (asked.Code (codeByName h p name)) asked.Nothing))))
 
+-- ---- 42: since when a button is held; pad 1, code 4
+
+unfoldable pub since : Hub → List ℕ → Asked
+since h payload = sized payload 5 (asked.Since (buttonByCode h (getD payload 0 0) (fieldOf payload 1 4)))
+
 -- ---- any of them
 
 -- 11 to 21: the payload's length says whether it goes by a code or by a name
@@ -73,4 +78,5 @@ queried h opcode payload =
 unfoldable pub askedOf : Hub → ℕ → List ℕ → Asked
 askedOf h opcode payload =
     cond (eqb opcode opcodes.repeat) (repeated h payload)
-    (cond (leb opcodes.pressedByCode opcode && leb opcode opcodes.threshold) (queried h opcode payload) (ofHead h opcode payload))
+    (cond (eqb opcode opcodes.since) (since h payload)
+    (cond (leb opcodes.pressedByCode opcode && leb opcode opcodes.threshold) (queried h opcode payload) (ofHead h opcode payload)))

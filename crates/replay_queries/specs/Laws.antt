@@ -1,22 +1,39 @@
--- Which part of the table answers: by the opcode's place among 11 to 21.
+-- Which part of the table answers: by the opcode's place among 11 to 21, where it has no part of its own.
 use Prim.Native.Nat.{ℕ, _≤_, _<_}
 use mathlib.Core.Path.{_≡_}
 use mathlib.Core.List.{List}
-use borrow.Author.Tests.{ne-eqb, le-leb, lt-leb}
+use borrow.Author.Tests.{eq-eqb, ne-eqb, le-leb, lt-leb}
 use Rattle.rules.specs.declared.Hub.{Hub}
 use Rattle.replay_answers.specs.Opcodes as opcodes
-use Rattle.replay_queries.specs.Asked.{queried, ofHead, askedOf}
+use Rattle.replay_queries.specs.Asked.{since, queried, ofHead, askedOf}
 
 module _ (h : Hub) (opcode : ℕ) (payload : List ℕ) (other : opcode ≡ opcodes.repeat → ⊥) where
-  pub below : opcode < opcodes.pressedByCode → askedOf h opcode payload ≡ ofHead h opcode payload
+  pub held : opcode ≡ opcodes.since → askedOf h opcode payload ≡ since h payload
   unfolding askedOf
-  below low = rw (ne-eqb opcode opcodes.repeat other, lt-leb opcodes.pressedByCode opcode low)
+  held is = rw (ne-eqb opcode opcodes.repeat other, eq-eqb opcode opcodes.since is)
 
-  module _ (high : opcodes.pressedByCode ≤ opcode) where
-    pub above : opcodes.threshold < opcode → askedOf h opcode payload ≡ ofHead h opcode payload
+  module _ (nor : opcode ≡ opcodes.since → ⊥) where
+    pub below : opcode < opcodes.pressedByCode → askedOf h opcode payload ≡ ofHead h opcode payload
     unfolding askedOf
-    above past = rw (ne-eqb opcode opcodes.repeat other, le-leb opcodes.pressedByCode opcode high, lt-leb opcode opcodes.threshold past)
+    below low = rw (ne-eqb opcode opcodes.repeat other, ne-eqb opcode opcodes.since nor, lt-leb opcodes.pressedByCode opcode low)
 
-    pub between : opcode ≤ opcodes.threshold → askedOf h opcode payload ≡ queried h opcode payload
-    unfolding askedOf
-    between low = rw (ne-eqb opcode opcodes.repeat other, le-leb opcodes.pressedByCode opcode high, le-leb opcode opcodes.threshold low)
+    module _ (high : opcodes.pressedByCode ≤ opcode) where
+      pub above : opcodes.threshold < opcode → askedOf h opcode payload ≡ ofHead h opcode payload
+      unfolding askedOf
+      above past =
+          rw (
+            ne-eqb opcode opcodes.repeat other,
+            ne-eqb opcode opcodes.since nor,
+            le-leb opcodes.pressedByCode opcode high,
+            lt-leb opcode opcodes.threshold past,
+          )
+
+      pub between : opcode ≤ opcodes.threshold → askedOf h opcode payload ≡ queried h opcode payload
+      unfolding askedOf
+      between low =
+          rw (
+            ne-eqb opcode opcodes.repeat other,
+            ne-eqb opcode opcodes.since nor,
+            le-leb opcodes.pressedByCode opcode high,
+            le-leb opcode opcodes.threshold low,
+          )

@@ -9,7 +9,7 @@ use Rattle.rules.specs.Repeat.{repeatOf}
 use Rattle.rules.specs.Queries.{pressedByCode, pressedByName, connectedOf, valueByCode, valueByName, thresholdByCode}
 use Rattle.rules.specs.Queries.{buttonByCode, buttonByName, axisByCode, axisByName, nameByCode, codeByName}
 use Rattle.replay_answers.specs.declared.Asked.the-variants as asked
-use Rattle.replay_queries.specs.Asked.{repeated, stands, ofHead, stateByCode, byCode, byName, queried, askedOf}
+use Rattle.replay_queries.specs.Asked.{repeated, stands, ofHead, stateByCode, byCode, byName, since, queried, askedOf}
 
 module _ (h : Hub) (s : List ℕ) where
   pub row-7 : length s ≡ 24 → askedOf h 7 s ≡ asked.Repeat (repeatOf h (fieldOf s 0 8) (fieldOf s 8 8) (fieldOf s 16 8))
@@ -53,6 +53,10 @@ module _ (h : Hub) (s : List ℕ) where
     pub row-21 : askedOf h 21 s ≡ asked.Threshold (thresholdByCode h (getD s 0 0) (fieldOf s 1 4))
     unfolding askedOf queried byCode stateByCode
     row-21 = rw long
+
+    pub row-42 : askedOf h 42 s ≡ asked.Since (buttonByCode h (getD s 0 0) (fieldOf s 1 4))
+    unfolding askedOf since
+    row-42 = rw long
 
   -- pad 1, name 1
   module _ (long : length s ≡ 2) where

@@ -1,6 +1,7 @@
-// The operations of the oracle's scenario form (`oracle/README.md`) that leave the hub as it is, played on a hub that is lent: the queries and Repeat. Proved:
-// each answers what its row of the table says (specs/Asked.antt), at the hub that head and arrays stand for, for every opcode and payload, and whatever the
-// arrays hold that are not lent. By the calls' own contracts: a function here only picks the call and reads its numbers off the payload.
+// The operations of the oracle's scenario form (`oracle/README.md`) that leave the hub as it is, on a hub that is lent: the queries and Repeat. Each answers what
+// its row of the table says (specs/Asked.antt), for every opcode and payload, by the call's own contract: a function here picks the call and reads the payload.
+mod held;
+
 ghost use mathlib.Core.Path.{_≡_};
 ghost use mathlib.Core.Bool.{Bool};
 ghost use mathlib.Core.List.{List};
@@ -43,6 +44,8 @@ const THRESHOLD: u8 = 21;
 const STANDS: u8 = 22;
 
 const WAITING: u8 = 23;
+
+const SINCE: u8 = 42;
 
 // how long the payloads are: pad 1 and code 4, pad 1 and name 1, three times, pad 1
 const CODE_PAYLOAD: usize = 5;
@@ -349,6 +352,9 @@ pub fn ask<'s>(
             marks,
             payload,
         );
+    }
+    if opcode == SINCE {
+        return held::since(head, codes, hasbutton, values, times, marks, payload);
     }
     if opcode < PRESSED_BY_CODE {
         return of_head(head, opcode, payload);

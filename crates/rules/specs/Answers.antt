@@ -73,7 +73,7 @@ valueSays (valueAnswer.Refused number) = refused number []
 
 abbrev pub buttonSays : ButtonAnswer → Said
 buttonSays (buttonAnswer.Data b) =
-    served (toBits binary32 (b .value) ∷ b .stamp ∷ b .counter ∷ bit (b .pressed) ∷ bit (b .repeating) ∷ [])
+    served (toBits binary32 (b .value) ∷ b .stamp ∷ b .counter ∷ bit (b .pressed) ∷ bit (b .repeating) ∷ b .since ∷ [])
 buttonSays buttonAnswer.Absent = served []
 buttonSays (buttonAnswer.Refused number) = refused number []
 

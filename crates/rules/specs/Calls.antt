@@ -37,7 +37,7 @@ use Rattle.rules.specs.Step.{updatedOf}
 -- ---- new
 
 abbrev pub blankButton : ButtonData
-blankButton = record { value = zero32; stamp = 0; counter = 0; pressed = false; repeating = false }
+blankButton = record { value = zero32; stamp = 0; counter = 0; pressed = false; repeating = false; since = 0 }
 
 abbrev pub blankAxis : AxisData
 blankAxis = record { value = zero32; stamp = 0; counter = 0 }

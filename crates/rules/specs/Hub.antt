@@ -22,7 +22,7 @@ use Rattle.rules.specs.State.{readPressed, readValue}
 -- ---- what an array has past its end
 
 abbrev pub pastButton : ButtonData
-pastButton = record { value = nan; stamp = 0; counter = 0; pressed = false; repeating = false }
+pastButton = record { value = nan; stamp = 0; counter = 0; pressed = false; repeating = false; since = 0 }
 
 abbrev pub pastAxis : AxisData
 pastAxis = record { value = nan; stamp = 0; counter = 0 }

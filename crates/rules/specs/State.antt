@@ -1,6 +1,6 @@
 -- State: the records of a code after an event, gilrs's `GamepadState`, and what is read of them. Definitions only.
 use Prim.Native.Nat.{ℕ, _+_}
-use mathlib.Core.Bool.{Bool, true, false, cond, _&&_}
+use mathlib.Core.Bool.{Bool, true, false, cond, not, _&&_}
 use lib.Dec.{ltb}
 use lib.Ieee.{Float}
 use Rattle.numbers.specs.Constants.{zero32, one32}
@@ -23,23 +23,40 @@ readValue axisKnown a buttonKnown b = cond axisKnown (a .value) (cond buttonKnow
 
 -- ---- the button record: `set_btn_pressed`, `set_btn_repeating`, `set_btn_value`
 
--- "Pressing a new button also sets value 1.0; a first Changed leaves it unpressed"
-abbrev pub buttonType : EventType → Bool → ButtonData → ℕ → ℕ → ButtonData
-buttonType (Pressed n c) known b time counter =
-    record { value = cond known (b .value) one32; stamp = time; counter = counter; pressed = true; repeating = false }
-buttonType (Released n c) known b time counter =
-    record { value = cond known (b .value) zero32; stamp = time; counter = counter; pressed = false; repeating = false }
-buttonType (Repeated n c) known b time counter =
-    record { value = cond known (b .value) one32; stamp = time; counter = counter; pressed = cond known (b .pressed) true; repeating = true }
-buttonType (Changed n c v) known b time counter =
-    record { value = v; stamp = time; counter = counter; pressed = known && b .pressed; repeating = known && b .repeating }
-buttonType (Axis n c v) known b time counter = b
-buttonType Connected known b time counter = b
-buttonType Disconnected known b time counter = b
-buttonType Dropped known b time counter = b
+-- the five fields that gilrs keeps of a button
+pub record CrateButton : Type 0 where
+  pub value : Float
+  pub stamp : ℕ
+  pub counter : ℕ
+  pub pressed : Bool
+  pub repeating : Bool
 
-unfoldable pub buttonAfter : Event → Bool → ButtonData → ℕ → ButtonData
-buttonAfter e known b counter = buttonType (e .event) known b (e .time) counter
+-- a record without `since`, and with it
+abbrev pub crateOf : ButtonData → CrateButton
+crateOf b = record { value = b .value; stamp = b .stamp; counter = b .counter; pressed = b .pressed; repeating = b .repeating }
+
+abbrev pub heldFrom : CrateButton → ℕ → ButtonData
+heldFrom b since =
+    record { value = b .value; stamp = b .stamp; counter = b .counter; pressed = b .pressed; repeating = b .repeating; since = since }
+
+-- "Pressing a new button also sets value 1.0; a first Changed leaves it unpressed"
+abbrev pub crateType : EventType → Bool → CrateButton → ℕ → ℕ → CrateButton
+crateType (Pressed n c) known b time counter =
+    record { value = cond known (b .value) one32; stamp = time; counter = counter; pressed = true; repeating = false }
+crateType (Released n c) known b time counter =
+    record { value = cond known (b .value) zero32; stamp = time; counter = counter; pressed = false; repeating = false }
+crateType (Repeated n c) known b time counter =
+    record { value = cond known (b .value) one32; stamp = time; counter = counter; pressed = cond known (b .pressed) true; repeating = true }
+crateType (Changed n c v) known b time counter =
+    record { value = v; stamp = time; counter = counter; pressed = known && b .pressed; repeating = known && b .repeating }
+crateType (Axis n c v) known b time counter = b
+crateType Connected known b time counter = b
+crateType Disconnected known b time counter = b
+crateType Dropped known b time counter = b
+
+-- gilrs's record after an event
+unfoldable pub crateAfter : Event → Bool → CrateButton → ℕ → CrateButton
+crateAfter e known b counter = crateType (e .event) known b (e .time) counter
 
 -- whether an event writes the button record of its code, or the axis record
 abbrev pub writesButtonType : EventType → Bool
@@ -54,6 +71,22 @@ writesButtonType Dropped = false
 
 unfoldable pub writesButton : Event → Bool
 writesButton e = writesButtonType (e .event)
+
+-- W-206: "the time at which it last went from not pressed to pressed": the event's time where the record reads pressed with it and did not before;
+-- else what it was, and 0 in a new record
+unfoldable pub sinceAfter : Bool → ButtonData → Bool → ℕ → ℕ
+unfolding readPressed
+sinceAfter known b pressed time = cond (pressed && not (readPressed known b)) time (cond known (b .since) 0)
+
+-- the button record after an event that writes one: gilrs's five fields as gilrs has them, and `since`; any other event leaves it
+abbrev pub buttonType : EventType → Bool → ButtonData → ℕ → ℕ → ButtonData
+buttonType t known b time counter =
+    let after = crateType t known (crateOf b) time counter in
+    cond (writesButtonType t) (heldFrom after (sinceAfter known b (after .pressed) time)) b
+
+unfoldable pub buttonAfter : Event → Bool → ButtonData → ℕ → ButtonData
+unfolding sinceAfter
+buttonAfter e known b counter = buttonType (e .event) known b (e .time) counter
 
 -- ---- the axis record: `update_axis`
 

@@ -138,12 +138,14 @@ pub struct Row {
     pub element: Element,
 }
 
+// A button record: gilrs's five fields, and since when the button has been held (W-206).
 pub struct ButtonData {
     pub value: f32,
     pub stamp: u64,
     pub counter: u64,
     pub pressed: bool,
     pub repeating: bool,
+    pub since: u64,
 }
 
 // An axis record keeps value, stamp and counter together.

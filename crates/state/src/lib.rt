@@ -16,18 +16,26 @@ fn kept_value(known: bool, kept: f32, fresh: f32) -> f32
     if known { kept } else { fresh }
 }
 
+fn kept_time(known: bool, kept: u64, fresh: u64) -> u64
+    ensures { λ r. ⌜ r ≡ cond known kept fresh ⌝ }
+{
+    if known { kept } else { fresh }
+}
+
 fn kept_mark(known: bool, kept: bool, fresh: bool) -> bool
     ensures { λ r. ⌜ r ≡ cond known kept fresh ⌝ }
 {
     if known { kept } else { fresh }
 }
 
-// ---- the button record: gilrs's `set_btn_pressed`, `set_btn_repeating`, `set_btn_value`
+// ---- the button record: gilrs's `set_btn_pressed`, `set_btn_repeating`, `set_btn_value`, and since when it is held
 
-// The button record after an event; the same one where the event writes none.
+// The button record after an event; the same one where the event writes none. Since when it is held (W-206): a press of a record that is not pressed, and a
+// repeat that creates one, set it; all else keeps it, and a record that begins otherwise has 0.
 pub fn button_after(e: Event, known: bool, b: ButtonData, counter: u64) -> ButtonData
     ensures { λ r. ⌜ r ≡ buttonAfter e known b counter ⌝ }
 {
+    let kept = kept_time(known, b.since, 0);
     let t = e.event;
     match t {
         EventType::Pressed(_, _) => ButtonData {
@@ -36,6 +44,7 @@ pub fn button_after(e: Event, known: bool, b: ButtonData, counter: u64) -> Butto
             counter: counter,
             pressed: true,
             repeating: false,
+            since: kept_time(read_pressed(known, b), b.since, e.time),
         },
         EventType::Released(_, _) => ButtonData {
             value: kept_value(known, b.value, 0.0),
@@ -43,6 +52,7 @@ pub fn button_after(e: Event, known: bool, b: ButtonData, counter: u64) -> Butto
             counter: counter,
             pressed: false,
             repeating: false,
+            since: kept,
         },
         EventType::Repeated(_, _) => ButtonData {
             value: kept_value(known, b.value, 1.0),
@@ -50,6 +60,7 @@ pub fn button_after(e: Event, known: bool, b: ButtonData, counter: u64) -> Butto
             counter: counter,
             pressed: kept_mark(known, b.pressed, true),
             repeating: true,
+            since: kept_time(known, b.since, e.time),
         },
         EventType::Changed(_, _, v) => ButtonData {
             value: v,
@@ -57,6 +68,7 @@ pub fn button_after(e: Event, known: bool, b: ButtonData, counter: u64) -> Butto
             counter: counter,
             pressed: kept_mark(known, b.pressed, false),
             repeating: kept_mark(known, b.repeating, false),
+            since: kept,
         },
         EventType::Axis(_, _, _) => b,
         EventType::Connected => b,

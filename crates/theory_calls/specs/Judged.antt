@@ -66,7 +66,7 @@ value-said zero false v = refl
 value-said (suc number) here v = refl
 
 abbrev pub buttonValues : ButtonData → List ℕ
-buttonValues b = toBits binary32 (b .value) ∷ b .stamp ∷ b .counter ∷ bit (b .pressed) ∷ bit (b .repeating) ∷ []
+buttonValues b = toBits binary32 (b .value) ∷ b .stamp ∷ b .counter ∷ bit (b .pressed) ∷ bit (b .repeating) ∷ b .since ∷ []
 
 pub button-said : (number : ℕ) (here : Bool) (b : ButtonData) → buttonSays (buttonBy number here b) ≡ judged number (present here (buttonValues b))
 button-said zero true b = refl

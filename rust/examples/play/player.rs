@@ -134,6 +134,9 @@ fn by_code(hub: &Hub, opcode: u8, pad: PadId, code: Code) -> Result<String, Refu
         scenario::VALUE_BY_CODE => format!("VALUE {:08x}", hub.value_by_code(pad, code)?.to_bits()),
         scenario::BUTTON_BY_CODE => or_absent("BUTTON", hub.button_data_by_code(pad, code)?.map(button_words)),
         scenario::AXIS_BY_CODE => or_absent("STICK", hub.axis_data_by_code(pad, code)?.map(axis_words)),
+        scenario::HELD_SINCE => {
+            or_absent("SINCE", hub.button_data_by_code(pad, code)?.map(|data| data.since().to_string()))
+        }
         scenario::NAME_OF_CODE => {
             format!("NAME {}", hub.axis_or_btn_name(pad, code)?.map_or(Name::NONE, Name::from).0)
         }

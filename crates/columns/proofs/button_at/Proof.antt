@@ -45,9 +45,18 @@ add-t24 c = search needs
 element-copy-out-t27 : tie.Need-element-copy-out-t27
 element-copy-out-t27 c = search needs
 
+add-t28 : tie.Need-add-t28
+add-t28 c = search needs
+
+mul-t29 : tie.Need-mul-t29
+mul-t29 c = search needs
+
+element-copy-out-t32 : tie.Need-element-copy-out-t32
+element-copy-out-t32 c = search needs
+
 returns : tie.Need-returns
 returns c =
-    let a = c .before .before .before .before .before .args in
+    let a = c .before .before .before .before .before .before .args in
     button-is (now (a .values)) (now (a .times)) (now (a .marks)) (a .k) pastButton (search needs)
 
 pub button-at-spec : {M : Type 1} → statement M
@@ -67,4 +76,7 @@ button-at-spec =
     element-copy-out-t23
     add-t24
     element-copy-out-t27
+    add-t28
+    mul-t29
+    element-copy-out-t32
     returns)

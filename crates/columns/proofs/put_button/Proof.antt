@@ -53,6 +53,15 @@ add-marks-2 c = search needs
 element-write-marks-2 : tie.Need-element-write-marks-2
 element-write-marks-2 c = search needs
 
+add-times-3 : tie.Need-add-times-3
+add-times-3 c = search needs
+
+mul-times-3 : tie.Need-mul-times-3
+mul-times-3 c = search needs
+
+element-write-times-3 : tie.Need-element-write-times-3
+element-write-times-3 c = search needs
+
 returns : tie.Need-returns
 returns c =
     let a = c .before .before .before .before .before .before .args in
@@ -79,4 +88,7 @@ put-button-spec =
     element-write-marks
     add-marks-2
     element-write-marks-2
+    add-times-3
+    mul-times-3
+    element-write-times-3
     returns)

@@ -74,7 +74,7 @@ sliceT = sliceTy (tyRef (named 0) imm (pointee (Record .written)))
 
 -- the bytes that a record takes
 abbrev recordSize : ℕ
-recordSize = 32
+recordSize = 40
 
 -- what follows the first statement of a sequence
 abbrev behind : Body → Body

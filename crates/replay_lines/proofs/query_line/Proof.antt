@@ -90,8 +90,14 @@ enum-known-answer-11 c = c .match .keys11
 counted-requires : tie.Need-counted-requires
 counted-requires c κs = tt
 
+enum-known-answer-12 : tie.Need-enum-known-answer-12
+enum-known-answer-12 c = c .match .keys12
+
+since-requires : tie.Need-since-requires
+since-requires c κs = tt
+
 enum-told : tie.Need-enum-told
-enum-told c = c .match .keys12
+enum-told c = c .match .keys13
 
 none-requires : tie.Need-none-requires
 none-requires c κs = tt
@@ -178,7 +184,14 @@ same-length-12 c = search needs
 
 returns-12 : tie.Need-returns-12
 unfolding queryPieces
-returns-12 c = rw (c .before .before .before .before .enum-told .given .1) (c .before .before .none .ensures)
+returns-12 c = rw (c .before .before .before .before .before .answer12 .given .1) (c .before .before .since .ensures)
+
+same-length-13 : tie.Need-same-length-13
+same-length-13 c = search needs
+
+returns-13 : tie.Need-returns-13
+unfolding queryPieces
+returns-13 c = rw (c .before .before .before .before .enum-told .given .1) (c .before .before .none .ensures)
 
 pub query-line-spec : {M : Type 1} → statement M
 query-line-spec =
@@ -212,6 +225,8 @@ query-line-spec =
     labelled-requires
     enum-known-answer-11
     counted-requires
+    enum-known-answer-12
+    since-requires
     enum-told
     none-requires
     same-length
@@ -237,4 +252,6 @@ query-line-spec =
     same-length-11
     returns-11
     same-length-12
-    returns-12)
+    returns-12
+    same-length-13
+    returns-13)

@@ -44,8 +44,8 @@ queries :
     ∷ valueSays (valueAnswer.Value minusOne32) is served (0xbf800000 ∷ [])
     ∷ valueSays valueAnswer.Absent is served []
     ∷ valueSays (valueAnswer.Refused 16) is refused 16 []
-    ∷ buttonSays (buttonAnswer.Data (record { value = one32; stamp = 5; counter = 6; pressed = true; repeating = false }))
-    is served (0x3f800000 ∷ 5 ∷ 6 ∷ 1 ∷ 0 ∷ [])
+    ∷ buttonSays (buttonAnswer.Data (record { value = one32; stamp = 5; counter = 6; pressed = true; repeating = false; since = 4 }))
+    is served (0x3f800000 ∷ 5 ∷ 6 ∷ 1 ∷ 0 ∷ 4 ∷ [])
     ∷ buttonSays buttonAnswer.Absent is served []
     ∷ buttonSays (buttonAnswer.Refused 6) is refused 6 []
     ∷ axisSays (axisAnswer.Data (record { value = one32; stamp = 5; counter = 6 })) is served (0x3f800000 ∷ 5 ∷ 6 ∷ [])

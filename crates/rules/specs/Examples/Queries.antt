@@ -84,11 +84,11 @@ thresholds = refl
 
 buttons :
     Right (
-    buttonByCode busy 0 plain is buttonAnswer.Data (record { value = one32; stamp = 6; counter = 0; pressed = true; repeating = false })
+    buttonByCode busy 0 plain is buttonAnswer.Data (record { value = one32; stamp = 6; counter = 0; pressed = true; repeating = false; since = 6 })
     ∷ buttonByCode busy 0 trigger is buttonAnswer.Absent
     ∷ buttonByCode busy 0 0x00010132 is buttonAnswer.Absent
     ∷ buttonByCode busy 1 plain is buttonAnswer.Refused 6
-    ∷ buttonByName busy 0 1 is buttonAnswer.Data (record { value = one32; stamp = 5; counter = 0; pressed = true; repeating = false })
+    ∷ buttonByName busy 0 1 is buttonAnswer.Data (record { value = one32; stamp = 5; counter = 0; pressed = true; repeating = false; since = 5 })
     ∷ buttonByName busy 0 2 is buttonAnswer.Absent
     ∷ buttonByName busy 0 8 is buttonAnswer.Absent
     ∷ buttonByName busy 0 33 is buttonAnswer.Refused 16

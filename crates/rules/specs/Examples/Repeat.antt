@@ -8,9 +8,11 @@ use Rattle.numbers.specs.Constants.{one32}
 use Rattle.rules.specs.declared.Hub.{Hub}
 use Rattle.rules.specs.declared.EventType.the-variants.{Pressed, Released, Repeated}
 use Rattle.rules.specs.declared.RepeatAnswer.the-variants.{Due, Quiet, Refused}
+use Rattle.rules.specs.declared.ButtonAnswer.the-variants as buttonAnswer
 use Rattle.rules.specs.Names.{codeLeft}
 use Rattle.rules.specs.Calls.{renameOf}
 use Rattle.rules.specs.Repeat.{dueOf, repeatOf}
+use Rattle.rules.specs.Queries.{buttonByCode}
 use Rattle.rules.specs.Examples.Table.{_is_, Right, event}
 use Rattle.rules.specs.Examples.Desk.{desk, twoPads, south, plain, hatX, raw, move, disconnect, after, given}
 
@@ -19,7 +21,7 @@ use Rattle.rules.specs.Examples.Desk.{desk, twoPads, south, plain, hatX,
 -- after 500, every 30; a record of stamp 1,000
 due : Bool → Bool → Bool → ℕ → Bool
 due known pressed repeating now =
-    dueOf known (record { value = one32; stamp = 1000; counter = 0; pressed = pressed; repeating = repeating }) 500 30 now
+    dueOf known (record { value = one32; stamp = 1000; counter = 0; pressed = pressed; repeating = repeating; since = 0 }) 500 30 now
 
 -- "A stamp later than now is not due"
 dues :
@@ -45,6 +47,12 @@ held = given (desk true true) (event 0 (Pressed 1 south) ∷ [])
 -- its repeat, handed back through `update`
 repeated : Hub
 repeated = given held (event 500 (Repeated 1 south) ∷ [])
+
+-- "A repeat overwrites a button's stamp", and leaves since when it is held (W-206)
+held-on : buttonByCode (given (desk true true) (event 5 (Pressed 1 south) ∷ event 505 (Repeated 1 south) ∷ [])) 0 south
+    ≡ buttonAnswer.Data (record { value = one32; stamp = 505; counter = 0; pressed = true; repeating = true; since = 5 })
+unfolding given desk buttonByCode
+held-on = refl
 
 -- "The time is its stamp plus after or every"; "held since 0, after 500, every 30 .. now 499: none"
 answers :

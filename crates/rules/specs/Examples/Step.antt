@@ -85,7 +85,7 @@ hat-button = refl
 
 -- a record keeps the counter of its event's step, and its time
 counted : buttonByCode (after (incOf (incOf (desk true true))) (press south 7)) 0 south
-    ≡ buttonAnswer.Data (record { value = one32; stamp = 7; counter = 2; pressed = true; repeating = false })
+    ≡ buttonAnswer.Data (record { value = one32; stamp = 7; counter = 2; pressed = true; repeating = false; since = 7 })
 unfolding after desk raw incOf buttonByCode
 counted = refl
 

@@ -22,7 +22,7 @@ use Rattle.rules.specs.State.{buttonType, writesButtonType, writesAxisType, but
 use Rattle.rules.specs.Hub.{placeIn, hasButtonAt, hasAxisAt, buttonAt, pastButton}
 use Rattle.rules.specs.Step.{updatedAt, updatedOf}
 
--- a button record without its stamp, counter and repeating mark, and whether it is there
+-- a button record without its stamp, counter, repeating mark and since, and whether it is there
 pub record Cell : Type 0 where
   pub known : Bool
   pub pressed : Bool

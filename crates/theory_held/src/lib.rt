@@ -1,0 +1,1 @@
+// Theorems about `since`, over the definitions of `rules`, in specs/. No function.
