@@ -66,6 +66,10 @@ module _ (es : List Event) (known : Bool) (b : ButtonData) (w : Told es known b)
   was : (known && b .pressed) ≡ pressedBy es
   was = unfold readPressed in w .pressed-is
 
+  -- a repeat reads pressed as before, or where it creates the record
+  repeats : cond known (b .pressed) true ≡ cond (begun es) (pressedBy es) true
+  repeats = rw (← w .begun-is) (where-known known (b .pressed) (pressedBy es) was)
+
   -- one that writes the record
   written : (e : Event) (after : ButtonData) → writesButtonType (e .event) ≡ true → after .pressed ≡ pressedBy (e ∷ es)
       → after .since ≡ sinceAfter known b (after .pressed) (e .time)
@@ -85,7 +89,7 @@ module _ (es : List Event) (known : Bool) (b : ButtonData) (w : Told es known b)
   unfolding pressedBy begun
   more (Pressed n c) pad time counter = rw or-true (written _ _ refl refl refl)
   more (Released n c) pad time counter = rw or-true (written _ _ refl refl refl)
-  more (Repeated n c) pad time counter = rw or-true (written _ _ refl (rw (← w .begun-is) (where-known known (b .pressed) (pressedBy es) was)) refl)
+  more (Repeated n c) pad time counter = rw or-true (written _ _ refl repeats refl)
   more (Changed n c v) pad time counter = rw or-true (written _ _ refl was refl)
   more (Axis n c v) pad time counter = rw or-false (left _ refl refl)
   more Connected pad time counter = rw or-false (left _ refl refl)
