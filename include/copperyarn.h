@@ -85,6 +85,9 @@ enum copperyarn_reason {
     COPPERYARN_PAUSED = 3   /* the allowance is spent */
 };
 
+/* Which of three a deadzone calculation was, copperyarn_tilt, and the calculation by itself. */
+#include "copperyarn_tilt.h"
+
 /* ---- refusals: COPPERYARN_REFUSED_THRESHOLDS is 1, and so on; each given exactly when its sentence holds, in the order that its call names */
 
 #define COPPERYARN_REFUSALS(EACH)                                                                                                       \
@@ -168,6 +171,7 @@ typedef struct copperyarn_axis_answer {
 typedef struct copperyarn_pump_answer {
     uint8_t refusal;
     uint8_t reason; /* a copperyarn_reason; 0 where it was refused */
+    uint8_t tilt;   /* a copperyarn_tilt: of the call's last axis event that met a threshold, handed out or not; where it was refused, of what came before */
     size_t place;   /* in the batch, in bytes: where to go on, or the record that was refused */
     size_t events;  /* written */
     size_t steps;   /* made */
@@ -252,7 +256,9 @@ static inline uint8_t copperyarn_rename(copperyarn_hub *hub, uint8_t pad, const 
 /* ---- events */
 
 /* Takes what waits, else the batch's records from a place on, and writes each event behind the one before; what it does not write of `out` stays.
- * Answers why it stopped, the place, events and steps; refuses 14, 8 (place past the end), and a record by 8, 6, 9, 10, 11, 12, each in this order. */
+ * Answers why it stopped, the place, events and steps; refuses 14, 8 (place past the end), and a record by 8, 6, 9, 10, 11, 12, each in this order.
+ * Beside each answer it reports which of three the deadzone calculation was for the last axis event of this call that met a threshold: with the filters on, one
+ * of an axis element's code that is no hat turned into directions and is not dropped by jitter. A stick that is held still is, so it reports none. */
 static inline copperyarn_pump_answer copperyarn_pump(
     copperyarn_hub *hub, const uint8_t *batch, size_t batch_size, size_t place, uint8_t *out, size_t out_size, uint16_t allowance) {
     uint8_t none = 0;

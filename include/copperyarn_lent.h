@@ -1,6 +1,7 @@
 /* Below the surface of copperyarn.h, which includes this file; programs have no need to call it. First the layout that the library was proved and compiled
  * with, held by assertions. Then its functions: each takes the head by value and of the hub's arrays those that it reads or writes, and each is proved to be
- * the call (crates/copperyarn). The calls in copperyarn.h lend a hub's fields to them, and do nothing else. */
+ * the call (crates/copperyarn). The calls in copperyarn.h lend a hub's fields to them, and do nothing else. The one that asks no hub
+ * is declared in copperyarn_tilt.h. */
 #ifndef COPPERYARN_LENT_H
 #define COPPERYARN_LENT_H
 #ifndef COPPERYARN_H
@@ -71,6 +72,7 @@ COPPERYARN_AT(copperyarn_axis_answer, counter, 16);
 COPPERYARN_SIZE(copperyarn_pump_answer, 32);
 COPPERYARN_AT(copperyarn_pump_answer, refusal, 0);
 COPPERYARN_AT(copperyarn_pump_answer, reason, 1);
+COPPERYARN_AT(copperyarn_pump_answer, tilt, 2);
 COPPERYARN_AT(copperyarn_pump_answer, place, 8);
 COPPERYARN_AT(copperyarn_pump_answer, events, 16);
 COPPERYARN_AT(copperyarn_pump_answer, steps, 24);
@@ -78,6 +80,11 @@ COPPERYARN_AT(copperyarn_pump_answer, steps, 24);
 COPPERYARN_SIZE(copperyarn_due_answer, 2);
 COPPERYARN_AT(copperyarn_due_answer, refusal, 0);
 COPPERYARN_AT(copperyarn_due_answer, due, 1);
+
+COPPERYARN_SIZE(copperyarn_tilted, 12);
+COPPERYARN_AT(copperyarn_tilted, x, 0);
+COPPERYARN_AT(copperyarn_tilted, y, 4);
+COPPERYARN_AT(copperyarn_tilted, tilt, 8);
 
 COPPERYARN_SIZE(copperyarn_head, 80);
 COPPERYARN_AT(copperyarn_head, pressed, 0);

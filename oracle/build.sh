@@ -1,13 +1,16 @@
 #!/usr/bin/env bash
 # Builds the oracle into oracle/build/: gilrs's seven supplied files, copied and compared, over the stand-ins, once with
 # the Y axis reversed and once not, and the player over both. rustc alone. GILRS_SOURCE names another place of the source,
-# ORACLE_BUILD another folder to build into, ORACLE_RUSTC another rustc, with its words.
+# ORACLE_BUILD another folder to build into, ORACLE_RUSTC another rustc, with its words. The deadzone's calculation, which
+# is private in gilrs, is cut out of the copy once more, into a crate of its own.
 set -euo pipefail
 oracle=$(cd "$(dirname "${BASH_SOURCE[0]}")" && pwd)
 source=${GILRS_SOURCE:-$oracle/../../shared/docs/src}/src
 build=${ORACLE_BUILD:-$oracle/build}
 read -ra rustc <<<"${ORACLE_RUSTC:-rustc}"
 supplied=(constants.rs gamepad.rs utils.rs ev/filter.rs ev/mod.rs ev/state.rs mapping/mod.rs)
+# shellcheck source=cut.sh
+. "$oracle/cut.sh"
 
 say() { printf 'oracle: %s\n' "$*" >&2; }
 command -v "${rustc[0]}" >/dev/null || { say 'no rustc here'; exit 3; }
@@ -24,8 +27,9 @@ unchanged() {
 }
 
 fresh() {
+  local from=("$oracle"/{stand-ins,reading,desk,player,build.sh,cut.sh})
   [ -x "$build/oracle" ] && unchanged &&
-    [ -z "$(find "$oracle"/{stand-ins,reading,desk,player,build.sh} -type f -newer "$build/oracle" -print -quit)" ]
+    [ -z "$(find "${from[@]}" -type f -newer "$build/oracle" -print -quit)" ]
 }
 
 compile() { # NAME FILE FOLDER [more]: one library, found by the later ones in the folder
@@ -51,13 +55,13 @@ gilrs() { # FOLDER [--cfg ..]: gilrs and the desk over it; the metadata keeps th
   mapfile -t mine < <(uses "$folder" gilrs_core)
   OUT_DIR=$build/common compile gilrs "$build/gilrs/lib.rs" "$folder" -C "metadata=$metadata" --cap-lints allow \
     "${common[@]}" "${mine[@]}"
-  mapfile -t mine < <(uses "$folder" gilrs_core gilrs; uses "$build/common" reading)
+  mapfile -t mine < <(uses "$folder" gilrs_core gilrs; uses "$build/common" reading calculation)
   compile "desk_$metadata" "$oracle/desk/lib.rs" "$folder" "${mine[@]}"
 }
 
 if fresh; then exit 0; fi
 rm -rf "$build"
-mkdir -p "$build"/gilrs/{ev,mapping} "$build/common"
+mkdir -p "$build"/gilrs/{ev,mapping} "$build"/{common,calculation}
 for file in "${supplied[@]}"; do cp "$source/$file" "$build/gilrs/$file"; done
 unchanged || { say 'the copies differ from the supplied files'; exit 1; }
 cp "$oracle"/stand-ins/{lib,ff,window}.rs "$build/gilrs/"
@@ -65,6 +69,10 @@ cp "$oracle/stand-ins/parser.rs" "$build/gilrs/mapping/"
 : >"$build/common/gamecontrollerdb.txt" # the crate's own list of mappings, which the oracle never loads
 for crate in log fnv uuid vec_map; do compile "$crate" "$oracle/stand-ins/$crate.rs" "$build/common"; done
 compile reading "$oracle/reading/lib.rs" "$build/common"
+cp "$oracle/stand-ins/calculation.rs" "$build/calculation/"
+item "$build/gilrs/utils.rs" 'pub fn clamp(' >"$build/calculation/utils.rs"
+item "$build/gilrs/ev/filter.rs" 'fn apply_deadzone(' >"$build/calculation/apply_deadzone.rs"
+compile calculation "$build/calculation/calculation.rs" "$build/common" --cap-lints allow
 gilrs "$build/plain"
 gilrs "$build/reversed" --cfg y_axis_reversed
 "${rustc[@]}" --edition 2021 -O --crate-name oracle -o "$build/oracle" \

@@ -11,6 +11,9 @@ trap 'rm -rf "$folder"' EXIT
 echo "seed $seed"
 "$oracle/build/oracle" generate "$seed" "$count" >"$folder/scenarios.bin"
 "$oracle/build/oracle" play --crate-loop "$folder/scenarios.bin" >"$folder/answers.txt"
-awk '{ word = $1; if (word == "REFUSED") word = word " " $2; count[word]++ }
+awk '{ word = $1 }
+  word == "REFUSED" || word == "TILT" { word = word " " $2 }
+  word == "PAIR" { word = word " " $4 }
+  { count[word]++ }
   END { for (word in count) printf "%9d %s\n", count[word], word }' "$folder/answers.txt" | sort -k 2,2 -k 3,3n
 echo "$count scenarios, $(wc -l <"$folder/answers.txt") answers and events, no panic, no difference"

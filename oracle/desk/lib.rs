@@ -8,15 +8,17 @@ mod plan;
 mod pump;
 mod query;
 mod repeat;
+mod tilt;
 mod translate;
 
 use crate::held::Held;
 use crate::hub::Hub;
 use crate::own_loop::OwnLoop;
 use crate::plan::Plan;
+use crate::tilt::Calculation;
 use crate::translate::to_crate;
 use reading::event::Event;
-use reading::scenario::{self, Operation, Settings};
+use reading::scenario::{self, Operation, Pump, Settings};
 use reading::sheet::{self, Sheet};
 use reading::{refusal, Desk, INSERT_LIMIT, MOST_PADS};
 
@@ -66,12 +68,7 @@ impl CrateDesk {
             Operation::New(_) => unreachable!("`new` opens another desk"),
             Operation::Register(bytes) => self.register(bytes)?,
             Operation::Rename(pad, list) => self.rename(pad, list)?,
-            Operation::Pump(call) => {
-                let pads = &self.plan.pads[..self.registered];
-                let done = pump::pump(&mut self.hub, &mut self.held, pads, &self.settings, &call);
-                self.own_loop.pump(&done);
-                done.lines()
-            }
+            Operation::Pump(call) => self.pump(&call),
             Operation::Update(bytes) => self.update(bytes)?,
             Operation::Insert(bytes) => self.insert(bytes)?,
             Operation::Repeat { after, every, now } => {
@@ -87,6 +84,7 @@ impl CrateDesk {
             Operation::Stands(pad) => one(format!("STANDS {}", u8::from(self.hub.pad(self.pad(pad)?).is_connected()))),
             Operation::Waiting => one(format!("WAITING {}", self.hub.waiting())),
             Operation::Dump => self.dump(),
+            Operation::Deadzone { x, y, threshold } => one(Calculation { x, y, threshold }.line()),
         })
     }
 
@@ -123,6 +121,17 @@ impl CrateDesk {
         }
         self.own_loop.rename(pad, &self.plan, list, waiting.len());
         Ok(one("RENAMED"))
+    }
+
+    fn pump(&mut self, call: &Pump<'_>) -> Vec<String> {
+        let pads = &self.plan.pads[..self.registered];
+        let done = pump::pump(&mut self.hub, &mut self.held, pads, &self.settings, call);
+        self.own_loop.pump(&done);
+        let mut lines = done.lines();
+        if call.tilt {
+            lines.push(tilt::line(done.tilt));
+        }
+        lines
     }
 
     fn update(&mut self, bytes: &[u8]) -> Result<Vec<String>, u8> {

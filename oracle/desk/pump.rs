@@ -4,8 +4,9 @@
 
 use crate::held::Held;
 use crate::hub::Hub;
+use crate::tilt::{self, Tilt};
 use crate::translate::from_crate;
-use gilrs::ev::filter::{axis_dpad_to_button, deadzone, Jitter};
+use gilrs::ev::filter::{axis_dpad_to_button, Jitter};
 use gilrs::Filter;
 use reading::event::{self, Event};
 use reading::record::{self, Record};
@@ -31,6 +32,8 @@ pub struct Pumped {
     pub records: Vec<Record>,
     /// The last step, if there was one, wrote its event.
     pub ends_written: bool,
+    /// What its last axis event that met a threshold met, W-205's report.
+    pub tilt: Option<Tilt>,
 }
 
 impl Pumped {
@@ -55,6 +58,7 @@ pub fn pump(hub: &mut Hub, held: &mut Held, pads: &[Sheet], settings: &Settings,
         events: Vec::new(),
         records: Vec::new(),
         ends_written: true,
+        tilt: None,
     };
     done.reason = loop {
         let empty = hub.waiting() == 0;
@@ -72,9 +76,10 @@ pub fn pump(hub: &mut Hub, held: &mut Held, pads: &[Sheet], settings: &Settings,
             }
         }
         done.steps += 1;
-        let written = turn(hub, held, settings);
+        let (written, tilt) = turn(hub, held, settings);
         done.ends_written = written.is_some();
         done.events.extend(written);
+        done.tilt = tilt.or(done.tilt);
     };
     done
 }
@@ -96,21 +101,22 @@ fn stop(call: &Pump<'_>, done: &Pumped, empty: bool) -> Option<Reason> {
     }
 }
 
-/// One turn of `next_event_inner`'s loop; the event it hands out, if it is not skipped.
-fn turn(hub: &mut Hub, held: &mut Held, settings: &Settings) -> Option<Event> {
-    let mut taken = hub.gilrs.next_event();
+/// One turn of `next_event_inner`'s loop; the event it hands out, if it is not skipped, and what its event met.
+fn turn(hub: &mut Hub, held: &mut Held, settings: &Settings) -> (Option<Event>, Option<Tilt>) {
+    let mut event = hub.gilrs.next_event().expect("the front of the queue or a record");
+    let mut tilt = None;
     if settings.has(FILTERS_ON) {
-        taken = taken
+        let taken = event
             .filter_ev(&axis_dpad_to_button, &mut hub.gilrs)
             .filter_ev(&Jitter::new(), &mut hub.gilrs)
-            .filter_ev(&deadzone, &mut hub.gilrs);
-    }
-    let event = taken.expect("the front of the queue or a record");
-    if settings.has(FILTERS_ON) && event.is_dropped() {
-        return None;
+            .expect("an event of an event");
+        (event, tilt) = tilt::filter(hub, taken);
+        if event.is_dropped() {
+            return (None, tilt);
+        }
     }
     if settings.has(UPDATES_ON) {
         held.update(hub, &event);
     }
-    Some(from_crate(&event))
+    (Some(from_crate(&event)), tilt)
 }

@@ -6,10 +6,12 @@
 //!     oracle cases FILE                  answers the byte-form cases that reader.py wrote
 
 mod cases;
+mod lines;
 mod pads;
 mod play;
 mod random;
 mod scenes;
+mod tilts;
 mod traffic;
 mod worked;
 

@@ -5,6 +5,7 @@ use reading::names::{self, DIRECTIONS};
 use reading::sheet::{
     Element, Sheet, ABSENT, AXIS, BUTTON, LARGEST_DEADZONE, LARGEST_VALUE, LEAST_VALUE, MOST_ELEMENTS,
 };
+use reading::MOST_PADS;
 use std::collections::BTreeSet;
 
 /// `to_nec`'s codes for the names 1 to 15.
@@ -29,6 +30,33 @@ pub const USUAL_CODES: [u32; 15] = [
 const HAT_X: u32 = 0x0003_0010;
 const HAT_Y: u32 = 0x0003_0011;
 const LEFT_X: u32 = 0x0003_0000;
+
+/// The payloads of the register operations, damaged ones and a fifth pad among them, and of the rename operations.
+pub fn preparation(random: &mut Random) -> (Vec<Vec<u8>>, Vec<Vec<u8>>) {
+    let wanted = random.among(&[1, 1, 1, 2, 2, 3, 4, 5]);
+    let mut good: Vec<Sheet> = Vec::new();
+    let mut sheets = Vec::new();
+    while good.len() < wanted {
+        if random.chance(12) {
+            sheets.push(damaged_sheet(random));
+        } else {
+            good.push(sheet(random));
+            sheets.push(good[good.len() - 1].to_bytes());
+        }
+    }
+    let mut renames = Vec::new();
+    for _ in 0..random.below(4) {
+        let pad = random.below(good.len().min(MOST_PADS) as u64) as usize;
+        let mut payload = vec![pad as u8];
+        payload.extend(rename_list(random, &good[pad]));
+        if random.chance(5) {
+            payload[0] = random.among(&[4, 255]);
+        }
+        renames.push(payload);
+    }
+    // a damaged sheet may still be a good one, and shift the pads' numbers: then the lists meet other sheets
+    (sheets, renames)
+}
 
 pub fn sheet(random: &mut Random) -> Sheet {
     if random.chance(45) {

@@ -7,6 +7,11 @@ impl Random {
         Random(seed)
     }
 
+    /// A stream of its own, whose seed is what this one draws next; this one stays where it is.
+    pub fn beside(&self) -> Self {
+        Random(Random(self.0).next())
+    }
+
     pub fn next(&mut self) -> u64 {
         self.0 = self.0.wrapping_add(0x9e37_79b9_7f4a_7c15);
         let mut mixed = self.0;

@@ -1,20 +1,25 @@
 //! Random scenarios. Each is played while it is made, so that a later pump can go on at the place where an earlier one
 //! stopped, and a repeat can be given back to `update`. Since when a button is held is asked wherever one was heard of:
-//! behind its record, an event given to `update`, a pump's events, a dump. That draws no number: the other operations
-//! of a seed are the same with it and without.
+//! behind its record, an event given to `update`, a pump's events, a dump. That draws no number. Which pumps ask for
+//! their report, and what is asked of the deadzone calculation, is drawn beside the rest. So the other operations of a
+//! seed are the same with these and without.
 
+use crate::lines;
 use crate::pads;
 use crate::play;
 use crate::random::Random;
+use crate::tilts;
 use crate::traffic::Traffic;
 use reading::bytes::{field32, put};
-use reading::event::{self, Event};
+use reading::event;
+use reading::record;
 use reading::sheet::Sheet;
-use reading::{names, scenario, Desk, LAST_TIME, LONGEST_BUFFER, LONGEST_REPEAT, MOST_PADS};
-use std::collections::BTreeSet;
+use reading::{names, scenario, Desk, LAST_TIME, LONGEST_BUFFER, LONGEST_REPEAT};
 
 struct Scene<'a> {
     random: &'a mut Random,
+    /// What operations 40 and 41 are drawn from.
+    aside: Random,
     desk: Option<Box<dyn Desk>>,
     bytes: Vec<u8>,
     traffic: Traffic,
@@ -26,52 +31,30 @@ struct Scene<'a> {
     place: usize,
 }
 
-/// One scenario, from its `new` to its last dump and what is asked of it.
+/// One scenario, from its `new` to its last dump and what is asked of it; in some the sticks are watched behind that.
 pub fn scene(random: &mut Random) -> Vec<u8> {
+    let aside = random.beside();
     let traffic = Traffic::new(random);
-    let (sheets, renames) = preparation(random);
+    let (sheets, renames) = pads::preparation(random);
     let mut scene =
-        Scene { random, desk: None, bytes: Vec::new(), traffic, sheets, renames, batch: Vec::new(), place: 0 };
+        Scene { random, aside, desk: None, bytes: Vec::new(), traffic, sheets, renames, batch: Vec::new(), place: 0 };
     scene.open();
     // without a hub every answer is the same
     let most = if scene.desk.is_some() { 30 } else { 5 };
     let calls = scene.random.between(4, most);
     for _ in 0..calls {
         scene.call();
+        scene.calculate();
     }
     scene.pump_rest();
     for _ in 0..scene.random.below(8) {
         scene.query();
     }
     scene.dump();
+    if scene.desk.is_some() && scene.aside.chance(25) {
+        scene.watch_sticks();
+    }
     scene.bytes
-}
-
-/// The payloads of the register operations, damaged ones and a fifth pad among them, and of the rename operations.
-fn preparation(random: &mut Random) -> (Vec<Vec<u8>>, Vec<Vec<u8>>) {
-    let wanted = random.among(&[1, 1, 1, 2, 2, 3, 4, 5]);
-    let mut good: Vec<Sheet> = Vec::new();
-    let mut sheets = Vec::new();
-    while good.len() < wanted {
-        if random.chance(12) {
-            sheets.push(pads::damaged_sheet(random));
-        } else {
-            good.push(pads::sheet(random));
-            sheets.push(good[good.len() - 1].to_bytes());
-        }
-    }
-    let mut renames = Vec::new();
-    for _ in 0..random.below(4) {
-        let pad = random.below(good.len().min(MOST_PADS) as u64) as usize;
-        let mut payload = vec![pad as u8];
-        payload.extend(pads::rename_list(random, &good[pad]));
-        if random.chance(5) {
-            payload[0] = random.among(&[4, 255]);
-        }
-        renames.push(payload);
-    }
-    // a damaged sheet may still be a good one, and shift the pads' numbers: then the lists meet other sheets
-    (sheets, renames)
 }
 
 impl Scene<'_> {
@@ -207,23 +190,67 @@ impl Scene<'_> {
     }
 
     fn pump_with(&mut self, out: usize, allowance: u64) {
+        let opcode = self.aside.among(&[scenario::PUMP, scenario::PUMP_TILT]);
+        let lines = self.play_pump(opcode, out, allowance);
+        for (pad, code) in lines::buttons(&lines) {
+            self.ask_since(pad, code);
+        }
+        if lines.last().map_or(false, |last| last.starts_with("PAUSED")) && self.random.chance(30) {
+            self.dump();
+        }
+    }
+
+    /// Pumps the batch from the place on, and leaves the place to go on from. Answers the pump's lines alone, without
+    /// that of its report behind them.
+    fn play_pump(&mut self, opcode: u8, out: usize, allowance: u64) -> Vec<String> {
         let mut payload = Vec::new();
         put(&mut payload, self.place as u64, 4);
         put(&mut payload, out as u64, 4);
         put(&mut payload, allowance, 2);
         payload.extend_from_slice(&self.batch);
-        let lines = self.play(scenario::PUMP, &payload);
-        self.ask_of_lines(&lines);
-        if lines.last().map_or(false, |last| last.starts_with("PAUSED")) && self.random.chance(30) {
-            self.dump();
+        let mut lines = self.play(opcode, &payload);
+        if opcode == scenario::PUMP_TILT {
+            lines.pop();
         }
         if let Some(last) = lines.last() {
-            let mut words = last.split(' ').rev();
-            self.place = words.nth(2).and_then(|word| word.parse().ok()).expect("a place");
+            self.place = lines::place(last);
             if last.starts_with("REFUSED") {
                 // step over the record, or begin a fresh batch
-                self.place = self.place.saturating_add(21);
+                self.place = self.place.saturating_add(record::SIZE);
             }
+        }
+        lines
+    }
+
+    /// Behind all else, and drawn beside it: sticks that clear each other, other axis events and a few records, pumped
+    /// a step or two at a time, so that a call's report is often that of a single event.
+    fn watch_sticks(&mut self) {
+        // not every pad has a pair
+        let mut tries = (0..4).map(|_| self.traffic.clearing(&mut self.aside));
+        let mut events = tries.find(|events| !events.is_empty()).unwrap_or_default();
+        for _ in 0..9 {
+            events.push(self.traffic.event(&mut self.aside));
+        }
+        for event in events.iter().filter(|event| event.kind == event::AXIS) {
+            self.play(scenario::INSERT, &event.to_bytes());
+        }
+        self.batch.clear();
+        for _ in 0..3 {
+            let record = self.traffic.record_bytes(&mut self.aside);
+            self.batch.extend(record);
+        }
+        self.place = 0;
+        for _ in 0..9 {
+            let allowance = self.aside.among(&[1, 1, 1, 2, 3]);
+            self.play_pump(scenario::PUMP_TILT, LONGEST_BUFFER, allowance);
+        }
+    }
+
+    /// At times the deadzone calculation alone.
+    fn calculate(&mut self) {
+        if self.aside.chance(15) {
+            let payload = tilts::payload(&mut self.aside);
+            self.play(scenario::DEADZONE, &payload);
         }
     }
 
@@ -261,7 +288,7 @@ impl Scene<'_> {
             let mut payload = Vec::new();
             [after, every, now].iter().for_each(|number| put(&mut payload, *number, 8));
             let lines = self.play(scenario::REPEAT, &payload);
-            let event = match lines.first().and_then(|line| repeated(line)) {
+            let event = match lines.first().and_then(|line| lines::repeated(line)) {
                 Some(event) if self.random.chance(85) => event,
                 _ => break,
             };
@@ -310,17 +337,6 @@ impl Scene<'_> {
         }
     }
 
-    /// The same once for each button among the events that a pump wrote.
-    fn ask_of_lines(&mut self, lines: &[String]) {
-        let mut asked = BTreeSet::new();
-        for words in lines.iter().map(|line| line.split(' ').collect::<Vec<_>>()) {
-            if event::WORDS[usize::from(event::PRESSED)..=usize::from(event::CHANGED)].contains(&words[0]) {
-                asked.insert((pad_in(words[1]), code_in(words[3])));
-            }
-        }
-        asked.iter().for_each(|(pad, code)| self.ask_since(*pad, *code));
-    }
-
     fn ask_since(&mut self, pad: u8, code: u32) {
         let mut payload = vec![pad];
         put(&mut payload, u64::from(code), 4);
@@ -333,8 +349,8 @@ impl Scene<'_> {
         for line in self.play(scenario::DUMP, &[]) {
             let words: Vec<&str> = line.split(' ').collect();
             match words[0] {
-                "DUMP" => pad = pad_in(words[1]),
-                "B" => self.ask_since(pad, code_in(words[1])),
+                "DUMP" => pad = lines::pad_in(words[1]),
+                "B" => self.ask_since(pad, lines::code_in(words[1])),
                 _ => (),
             }
         }
@@ -373,28 +389,4 @@ fn thresholds(random: &mut Random) -> (f32, f32) {
         2 => (0.75, 0.65),
         _ => (0.75, 0.5),
     }
-}
-
-fn pad_in(word: &str) -> u8 {
-    word.parse().expect("a pad")
-}
-
-fn code_in(word: &str) -> u32 {
-    u32::from_str_radix(word, 16).expect("a code")
-}
-
-/// The event of a REPEATED line.
-fn repeated(line: &str) -> Option<Event> {
-    let words: Vec<&str> = line.split(' ').collect();
-    if words[0] != "REPEATED" {
-        return None;
-    }
-    Some(Event {
-        kind: event::REPEATED,
-        pad: words[1].parse().ok()?,
-        name: words[2].parse().ok()?,
-        code: u32::from_str_radix(words[3], 16).ok()?,
-        bits: 0,
-        time: words[5].parse().ok()?,
-    })
 }

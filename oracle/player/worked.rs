@@ -1,5 +1,5 @@
-//! 01's padlog example and its "Numbers worked out" as scenarios. The answers that 01 gives stand in
-//! `sample/example.txt` and `sample/worked.txt`, the latter with 01's words beside each number.
+//! 01's padlog example and its "Numbers worked out" as scenarios, and behind them those of W-205. The answers that 01
+//! and the request give stand in `sample/example.txt` and `sample/worked.txt`, the latter with words beside each number.
 
 use reading::bytes::put;
 use reading::event::{self, Event};
@@ -29,6 +29,11 @@ fn hub(flags: u8, elements: Vec<Element>) -> Vec<u8> {
 
 /// One pump over records of the axis values, each at its time.
 fn pump(moves: &[(u32, i32, u64)]) -> Vec<u8> {
+    pump_by(scenario::PUMP, moves)
+}
+
+/// The same by its opcode: with its report or without.
+fn pump_by(opcode: u8, moves: &[(u32, i32, u64)]) -> Vec<u8> {
     let mut payload = Vec::new();
     put(&mut payload, 0, 4);
     put(&mut payload, 16_384, 4);
@@ -37,7 +42,7 @@ fn pump(moves: &[(u32, i32, u64)]) -> Vec<u8> {
         let record = Record { kind: record::AXIS_MOVED, pad: 0, code: *code, value: *value, time: *time };
         payload.extend(record.to_bytes());
     }
-    scenario::write(scenario::PUMP, &payload)
+    scenario::write(opcode, &payload)
 }
 
 fn by_code(opcode: u8, code: u32) -> Vec<u8> {
@@ -67,12 +72,16 @@ pub fn worked() -> Vec<u8> {
     bytes.extend(pump(&[(STICK_X, 3, 0)]));
     bytes.extend(deadzones());
     bytes.extend(repeats());
+    bytes.extend(tilts());
     bytes
 }
 
 /// A stick of 0..256 whose raw values 160, 224 and 256 are 0.25, 0.75 and 1.
+fn stick(deadzone: u32) -> Vec<Element> {
+    vec![axis(STICK_X, 33, 0, 256, deadzone), axis(STICK_Y, 34, 0, 256, deadzone)]
+}
+
 fn deadzones() -> Vec<u8> {
-    let stick = |deadzone| vec![axis(STICK_X, 33, 0, 256, deadzone), axis(STICK_Y, 34, 0, 256, deadzone)];
     let mut bytes = hub(FILTERS_ON | UPDATES_ON, stick(32));
     bytes.extend(by_code(scenario::THRESHOLD, STICK_X));
     bytes.extend(pump(&[(STICK_X, 160, 0)]));
@@ -101,5 +110,24 @@ fn repeats() -> Vec<u8> {
         bytes.extend(scenario::write(scenario::UPDATE, &held(event::REPEATED, 500 + 30 * number)));
     }
     bytes.extend(ask(1_000));
+    bytes
+}
+
+/// W-205's: these sticks with each pump's report, one held still, and a threshold of 1; then the calculation alone.
+fn tilts() -> Vec<u8> {
+    let report = |moves: &[(u32, i32, u64)]| pump_by(scenario::PUMP_TILT, moves);
+    let mut bytes = hub(FILTERS_ON | UPDATES_ON, stick(32));
+    bytes.extend(report(&[(STICK_X, 160, 0)]));
+    bytes.extend(hub(FILTERS_ON | UPDATES_ON, stick(64)));
+    bytes.extend(report(&[(STICK_X, 224, 0)]));
+    bytes.extend(report(&[(STICK_X, 256, 1), (STICK_Y, 256, 2)]));
+    bytes.extend(report(&[(STICK_Y, 256, 3)]));
+    bytes.extend(hub(FILTERS_ON | UPDATES_ON, stick(128)));
+    bytes.extend(report(&[(STICK_X, 256, 0)]));
+    for numbers in [[0.25, 0.0, 0.25], [0.75, 0.0, 0.5], [1.0, 1.0, 0.5], [1.0_f32, 0.0, 1.0]] {
+        let mut payload = Vec::new();
+        numbers.iter().for_each(|number| put(&mut payload, u64::from(number.to_bits()), 4));
+        bytes.extend(scenario::write(scenario::DEADZONE, &payload));
+    }
     bytes
 }

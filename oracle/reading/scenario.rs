@@ -27,6 +27,8 @@ pub const THRESHOLD: u8 = 21;
 pub const STANDS: u8 = 22;
 pub const WAITING: u8 = 23;
 pub const DUMP: u8 = 24;
+pub const PUMP_TILT: u8 = 40;
+pub const DEADZONE: u8 = 41;
 pub const HELD_SINCE: u8 = 42;
 
 /// Bits of the flags byte of `new`.
@@ -53,6 +55,8 @@ pub struct Pump<'a> {
     pub out: usize,
     pub allowance: u64,
     pub batch: &'a [u8],
+    /// Whether W-205's report is asked for beside the answer.
+    pub tilt: bool,
 }
 
 #[derive(Clone, Copy, Debug)]
@@ -78,9 +82,16 @@ pub enum Operation<'a> {
     Stands(u8),
     Waiting,
     Dump,
+    /// The deadzone calculation alone; none of the three is NaN.
+    Deadzone {
+        x: f32,
+        y: f32,
+        threshold: f32,
+    },
 }
 
-/// Reads a whole stream; `None` if it is no scenario (an unknown opcode, a payload of another length).
+/// Reads a whole stream; `None` if it is no scenario (an unknown opcode, a payload of another length, a NaN
+/// where none may stand).
 pub fn read(bytes: &[u8]) -> Option<Vec<Operation<'_>>> {
     let mut operations = Vec::new();
     let mut rest = bytes;
@@ -104,12 +115,7 @@ fn read_one(opcode: u8, payload: &[u8]) -> Option<Operation<'_>> {
         }),
         (REGISTER, _) => Operation::Register(payload),
         (RENAME, 1..) => Operation::Rename(payload[0], &payload[1..]),
-        (PUMP, 10..) => Operation::Pump(Pump {
-            place: field(payload, 0, 4) as usize,
-            out: field(payload, 4, 4) as usize,
-            allowance: field(payload, 8, 2),
-            batch: &payload[10..],
-        }),
+        (PUMP | PUMP_TILT, 10..) => read_pump(payload, opcode == PUMP_TILT),
         (UPDATE, _) => Operation::Update(payload),
         (INSERT, _) => Operation::Insert(payload),
         (REPEAT, 24) => {
@@ -128,8 +134,25 @@ fn read_one(opcode: u8, payload: &[u8]) -> Option<Operation<'_>> {
         (STANDS, 1) => Operation::Stands(payload[0]),
         (WAITING, 0) => Operation::Waiting,
         (DUMP, 0) => Operation::Dump,
+        (DEADZONE, 12) => return read_deadzone(payload),
         _ => return None,
     })
+}
+
+fn read_pump(payload: &[u8], tilt: bool) -> Operation<'_> {
+    Operation::Pump(Pump {
+        place: field(payload, 0, 4) as usize,
+        out: field(payload, 4, 4) as usize,
+        allowance: field(payload, 8, 2),
+        batch: &payload[10..],
+        tilt,
+    })
+}
+
+fn read_deadzone(payload: &[u8]) -> Option<Operation<'_>> {
+    let [x, y, threshold] = [0, 4, 8].map(|at| f32::from_bits(field32(payload, at)));
+    let numbers = [x, y, threshold].iter().all(|number| !number.is_nan());
+    numbers.then_some(Operation::Deadzone { x, y, threshold })
 }
 
 /// Writes one operation.

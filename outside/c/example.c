@@ -51,7 +51,7 @@ int main(int argc, char **argv) {
 
     /* the out buffer holds 100 events: while it comes back full, or the allowance was spent, go on from the place answered */
     size_t steps = 0;
-    copperyarn_pump_answer report = {0, 0, 0, 0, 0};
+    copperyarn_pump_answer report = {0, 0, 0, 0, 0, 0};
     do {
         report = copperyarn_pump(&hub, batch, batch_size, report.place, out, sizeof out, UINT16_MAX);
         print_events(out, report.events);

@@ -57,7 +57,8 @@ static void enrol(const uint8_t *bytes, size_t size) {
         printf("PAD %d\n", answer.pad);
 }
 
-static void pump(const uint8_t *bytes, size_t size) {
+/* The pump's lines; its report. */
+static uint8_t pump(const uint8_t *bytes, size_t size) {
     static const char *const reasons[] = {"", "DRAINED", "FULL", "PAUSED"};
     size_t place = copperyarn_read_number(bytes, 4), room = copperyarn_read_number(bytes + 4, 4), batch_size = size - 10;
     uint8_t *out = block(room + COPPERYARN_EVENT_SIZE), *batch = block(batch_size);
@@ -75,8 +76,25 @@ static void pump(const uint8_t *bytes, size_t size) {
     else
         fputs(reasons[report.reason], stdout);
     printf(" %zu %zu %zu\n", report.place, report.events, report.steps);
+    CHECK(report.tilt <= COPPERYARN_TILT_FULL && (report.steps > 0 || report.tilt == COPPERYARN_TILT_NONE));
     free(out);
     free(batch);
+    return report.tilt;
+}
+
+static const char *const TILTS[] = {"NONE", "INSIDE", "BETWEEN", "FULL"};
+
+/* NaN has no bits of its own in the answers: each is written as this one. */
+enum { NAN_BITS = 0x7fc00000 };
+
+static uint32_t answered_bits(float value) { return value == value ? copperyarn_bits(value) : (uint32_t)NAN_BITS; }
+
+static void calculate(const uint8_t *bytes) {
+    float numbers[3];
+    for (size_t i = 0; i < 3; i++) numbers[i] = copperyarn_float((uint32_t)copperyarn_read_number(bytes + 4 * i, 4));
+    copperyarn_tilted tilted = copperyarn_deadzone(numbers[0], numbers[1], numbers[2]);
+    CHECK(tilted.tilt != COPPERYARN_TILT_NONE && tilted.tilt <= COPPERYARN_TILT_FULL);
+    printf("PAIR %08" PRIx32 " %08" PRIx32 " %s\n", answered_bits(tilted.x), answered_bits(tilted.y), TILTS[tilted.tilt]);
 }
 
 static void repeat(const uint8_t *bytes) {
@@ -216,10 +234,12 @@ static void play(uint8_t opcode, const uint8_t *bytes, size_t size) {
     case 10: copperyarn_reset_counter(&hub); break;
     case 23: printf("WAITING %d\n", copperyarn_waiting(&hub)); break;
     case 24: dump(); break;
+    case 40: printf("TILT %s\n", TILTS[pump(bytes, size)]); break;
+    case 41: calculate(bytes); break;
     default: ask(opcode, bytes, size);
     }
     if (opcode >= 8 && opcode <= 10) printf("COUNTER %" PRIu64 "\n", copperyarn_counter(&hub));
-    if (opcode >= 11 || opcode == 7) CHECK(same_hub(&hub, &before));
+    if ((opcode >= 11 && opcode != 40) || opcode == 7) CHECK(same_hub(&hub, &before));
 }
 
 int main(int argc, char **argv) {

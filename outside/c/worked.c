@@ -81,7 +81,7 @@ static void deadzones(void) {
     copperyarn_value_answer threshold = copperyarn_deadzone_threshold(&hub, 0, STICK);
     CHECK(threshold.known && threshold.value == 0.25f);
     copperyarn_pump_answer dropped = take(&hub, moved(STICK, 160, 7), out); /* (0.25, 0) at 0.25 */
-    CHECK(dropped.reason == COPPERYARN_DRAINED && dropped.events == 0 && dropped.steps == 1);
+    CHECK(dropped.reason == COPPERYARN_DRAINED && dropped.events == 0 && dropped.steps == 1 && dropped.tilt == COPPERYARN_TILT_INSIDE);
     CHECK(copperyarn_value(&hub, 0, COPPERYARN_AXIS_LEFT_STICK_X).value == 0.0f);
     stick_of(64);
     CHECK(given(moved(STICK, 224, 7), 1) == 0.5f); /* (0.75, 0) at 0.5 */

@@ -4,6 +4,7 @@ use crate::event::Event;
 use crate::hub::{Hub, Reason};
 use crate::record::RawRecord;
 use crate::refusal::Refusal;
+use crate::tilt::Tilt;
 use std::error::Error;
 use std::{fmt, slice};
 
@@ -50,15 +51,22 @@ impl Hub {
     /// # Ok::<(), copperyarn::Refusal>(())
     /// ```
     pub fn next_event(&mut self, records: &mut impl Iterator<Item = RawRecord>) -> Result<Option<Event>, Refused> {
+        self.next_noting(records, &mut None)
+    }
+
+    /// The same, and notes what the axis events on the way met.
+    fn next_noting(
+        &mut self, records: &mut impl Iterator<Item = RawRecord>, tilt: &mut Option<Tilt>,
+    ) -> Result<Option<Event>, Refused> {
         loop {
             if self.waiting() > 0 {
-                match self.pump_one(&[]) {
+                match self.pump_one(&[], tilt) {
                     (_, Some(event)) => return Ok(Some(event)),
                     _ => continue,
                 }
             }
             let Some(record) = records.next() else { return Ok(None) };
-            match self.pump_one(&record.to_bytes()) {
+            match self.pump_one(&record.to_bytes(), tilt) {
                 (_, Some(event)) => return Ok(Some(event)),
                 (Reason::Refused(refusal), None) => return Err(Refused { record, refusal }),
                 _ => {}
@@ -67,9 +75,10 @@ impl Hub {
     }
 
     /// Pumps up to the first event that is handed out.
-    fn pump_one(&mut self, batch: &[u8]) -> (Reason, Option<Event>) {
+    fn pump_one(&mut self, batch: &[u8], tilt: &mut Option<Tilt>) -> (Reason, Option<Event>) {
         let mut out = [0; Event::SIZE];
         let report = self.pump(batch, 0, &mut out, u16::MAX);
+        *tilt = report.tilt.or(*tilt);
         let event = report.written(&out).next();
         (report.reason, event)
     }
@@ -95,7 +104,7 @@ impl Hub {
     /// # Ok::<(), Refusal>(())
     /// ```
     pub fn feed<'r>(&mut self, records: &'r [RawRecord]) -> Feed<'_, 'r> {
-        Feed { hub: self, records: records.iter() }
+        Feed { hub: self, records: records.iter(), tilt: None }
     }
 }
 
@@ -123,12 +132,33 @@ impl Hub {
 pub struct Feed<'h, 'r> {
     hub: &'h mut Hub,
     records: slice::Iter<'r, RawRecord>,
+    tilt: Option<Tilt>,
 }
 
 impl<'r> Feed<'_, 'r> {
     /// The hub behind the events so far.
     pub fn hub(&self) -> &Hub {
         self.hub
+    }
+
+    /// Which of three the deadzone calculation was for the last axis event so far that met a threshold, as in [`PumpReport::tilt`](crate::PumpReport::tilt);
+    /// none where none of this feed's did. What was dropped on the way to the event that [`next`](Iterator::next) gave counts too.
+    ///
+    /// ```
+    /// # use copperyarn::{Axis, Code, Hub, RawRecord, Settings, Sheet, Tilt};
+    /// # let stick = Code::abs(0x00);
+    /// # let mut hub = Hub::new(Settings::default())?;
+    /// # let pad = hub.register(&Sheet::builder().axis_with_deadzone(stick, Axis::LeftStickX, 0..=256, 64).build())?;
+    /// let records = [RawRecord::axis(pad, stick, 256, 5), RawRecord::axis(pad, stick, 160, 9)];
+    /// let mut feed = hub.feed(&records);
+    /// for event in feed.by_ref() {
+    ///     println!("{:?}", event?);
+    /// }
+    /// assert_eq!(feed.tilt(), Some(Tilt::Inside));
+    /// # Ok::<(), copperyarn::Refusal>(())
+    /// ```
+    pub fn tilt(&self) -> Option<Tilt> {
+        self.tilt
     }
 
     /// The records that were not taken yet.
@@ -141,6 +171,6 @@ impl Iterator for Feed<'_, '_> {
     type Item = Result<Event, Refused>;
 
     fn next(&mut self) -> Option<Result<Event, Refused>> {
-        self.hub.next_event(&mut self.records.by_ref().copied()).transpose()
+        self.hub.next_noting(&mut self.records.by_ref().copied(), &mut self.tilt).transpose()
     }
 }

@@ -5,6 +5,7 @@ use crate::layout::Fields;
 use crate::names::{Name, PadId};
 use crate::refusal::{judged, Refusal};
 use crate::sheet::Sheet;
+use crate::tilt::Tilt;
 use std::fmt;
 
 /// What a hub is made with. The defaults are those of gilrs's builder.
@@ -78,6 +79,12 @@ pub struct PumpReport {
     pub events: usize,
     /// How many steps it made: each takes an event that waits or a record.
     pub steps: usize,
+    /// Which of three the deadzone calculation was for the last axis event among them that met a threshold. Nothing is kept from call to call.
+    ///
+    /// An axis event meets one with [`filters`](Settings::filters) on, where its code is an axis element's, whether the deadzone then hands it out or drops it.
+    /// A hat that is turned into directions is no axis event any more, a trigger's value is a button's, and what jitter drops gets no calculation: a stick that
+    /// is held still meets none. Of a call that was stopped by a refused record it is what came before that; a call refused as a whole has none.
+    pub tilt: Option<Tilt>,
 }
 
 impl PumpReport {
@@ -142,7 +149,8 @@ impl Hub {
             (Ok(()), 2) => Reason::Full,
             (Ok(()), _) => Reason::Paused,
         };
-        PumpReport { reason, place: report.place, events: report.events, steps: report.steps }
+        let tilt = Tilt::of(report.tilt);
+        PumpReport { reason, place: report.place, events: report.events, steps: report.steps, tilt }
     }
 
     /// Gives an event to the state, as the pump does with those that it hands out. Refuses 8, 6, 9, 11, 12.

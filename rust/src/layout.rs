@@ -92,7 +92,7 @@ impl Fields {
     };
 }
 
-// ---- the answers: each has the refusal's number, 0 where the call was served
+// ---- the answers: each call's has the refusal's number, 0 where it was served
 
 #[repr(C)]
 pub struct Pad {
@@ -145,6 +145,7 @@ pub struct Axis {
 pub struct Report {
     pub refusal: u8,
     pub reason: u8,
+    pub tilt: u8,
     pub place: usize,
     pub events: usize,
     pub steps: usize,
@@ -154,6 +155,14 @@ pub struct Report {
 pub struct Due {
     pub refusal: u8,
     pub due: bool,
+}
+
+/// Of the calculation that asks no hub, and refuses nothing.
+#[repr(C)]
+pub struct TiltedPair {
+    pub x: f32,
+    pub y: f32,
+    pub tilt: u8,
 }
 
 // ---- the head after a call that changes it, with its answer

@@ -39,6 +39,7 @@ mod record;
 mod refusal;
 mod sheet;
 mod state;
+mod tilt;
 
 pub use event::{Event, EventType};
 pub use feed::{Feed, Refused};
@@ -48,6 +49,7 @@ pub use record::{RawRecord, RawType};
 pub use refusal::Refusal;
 pub use sheet::{Sheet, SheetBuilder};
 pub use state::{AxisData, ButtonData};
+pub use tilt::{apply_deadzone, Tilt};
 
 /// The programs of `docs/FROM-GILRS.md`, run as examples of this crate.
 #[cfg(doctest)]

@@ -81,6 +81,12 @@ unsafe extern "C" {
     ) -> Number;
     safe fn copperyarn_lent_is_connected(head: Head, pad: u8) -> Truth;
     safe fn copperyarn_lent_waiting(head: Head) -> u8;
+    safe fn copperyarn_deadzone(x: f32, y: f32, threshold: f32) -> TiltedPair;
+}
+
+/// The call that asks no hub.
+pub(crate) fn deadzone(x: f32, y: f32, threshold: f32) -> TiltedPair {
+    copperyarn_deadzone(x, y, threshold)
 }
 
 /// The calls that change the hub: each stores the head that comes back.

@@ -7,6 +7,13 @@ fn text(path: &str) -> String {
     std::fs::read_to_string(&path).unwrap_or_else(|error| panic!("{path}: {error}"))
 }
 
+/// The files of a folder.
+fn sources(folder: &str) -> Vec<String> {
+    let path = format!("{}/{}", env!("CARGO_MANIFEST_DIR"), folder);
+    let entries = std::fs::read_dir(&path).unwrap_or_else(|error| panic!("{path}: {error}"));
+    entries.map(|entry| format!("{folder}/{}", entry.expect("a file").file_name().to_string_lossy())).collect()
+}
+
 /// The fields of each struct that has the C layout.
 fn structs(source: &str) -> BTreeMap<&str, Vec<&str>> {
     let mut found = BTreeMap::new();
@@ -27,7 +34,7 @@ fn the_structs_are_the_librarys() {
     theirs.extend(structs(&answers));
     let mut ours = structs(&ours);
     assert!(ours.remove("Fields").is_some());
-    assert_eq!(ours.len(), 12);
+    assert_eq!(ours.len(), 13);
     assert_eq!(ours, theirs);
 }
 
@@ -39,10 +46,10 @@ fn the_columns_are_the_librarys() {
     assert!(columns.iter().all(|column| ours.lines().any(|line| line == *column)));
 }
 
-/// The exports of a source, each with its parameters and what it answers: from `fn copperyarn_lent_..` to the end given.
+/// The exports of a source, each with its parameters and what it answers: from `fn copperyarn_..` to the end given.
 fn exports(source: &str, end: &str) -> BTreeMap<String, (Vec<String>, String)> {
     let mut found = BTreeMap::new();
-    for part in source.split("fn copperyarn_lent_").skip(1) {
+    for part in source.split("fn copperyarn_").skip(1) {
         let (signature, _) = part.split_once(end).expect("its end");
         let (head, answer) = signature.rsplit_once(") -> ").expect("an answer");
         let (name, parameters) = head.split_once('(').expect("parameters");
@@ -73,9 +80,10 @@ fn the_declarations_are_the_librarys() {
     let ours = text("src/library.rs");
     let (block, _) = ours.split_once("}\n").expect("the block's end");
     let ours = exports(block, ";\n");
-    let end = "\n    ensures";
-    let mut theirs = exports(&text("../crates/copperyarn/src/lib.rt"), end);
-    theirs.extend(exports(&text("../crates/copperyarn/src/asking.rt"), end));
-    assert_eq!(ours.len(), 23);
+    let mut theirs = BTreeMap::new();
+    for file in sources("../crates/copperyarn/src") {
+        theirs.extend(exports(&text(&file), "\n    ensures"));
+    }
+    assert_eq!(ours.len(), 24);
     assert_eq!(ours, theirs);
 }

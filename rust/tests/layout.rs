@@ -34,6 +34,8 @@ fn the_answers_have_their_sizes() {
     assert_eq!((offset_of!(Button, counter), offset_of!(Button, since)), (16, 24));
     assert_eq!((size_of::<Axis>(), offset_of!(Axis, value), offset_of!(Axis, stamp)), (24, 4, 8));
     assert_eq!((size_of::<Report>(), offset_of!(Report, place), offset_of!(Report, steps)), (32, 8, 24));
+    assert_eq!((offset_of!(Report, reason), offset_of!(Report, tilt)), (1, 2));
+    assert_eq!((size_of::<TiltedPair>(), offset_of!(TiltedPair, y), offset_of!(TiltedPair, tilt)), (12, 4, 8));
 }
 
 #[test]

@@ -116,7 +116,8 @@ fn filtered(on: bool, case: &[u8; 104]) -> bool {
     let g = dpad::dpad(v, e);
     let hats = g.count;
     let turned = g.event;
-    let z = filters::unturned(v, turned);
+    let met = filters::unturned(v, turned);
+    let z = met.zoned;
     let sent = z.event;
     let clearing = z.clearing;
     let flags = z.flags;
@@ -165,7 +166,8 @@ fn jitter_alone(case: &[u8; 104]) -> bool {
 
 // Whether the deadzone filter alone does.
 fn deadzone_alone(case: &[u8; 104]) -> bool {
-    let z = filters::deadzoned(view(case), compare_cases::event(case, compare_cases::GIVEN));
+    let met = filters::deadzoned(view(case), compare_cases::event(case, compare_cases::GIVEN));
+    let z = met.zoned;
     let sent = z.event;
     let clearing = z.clearing;
     let flags = z.flags;

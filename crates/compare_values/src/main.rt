@@ -154,14 +154,26 @@ fn threshold(record: &[u8; 20]) -> bool {
     gives(scale::threshold_of(min, max, deadzone), record, 3)
 }
 
+// A stick's pair; and where the partner is 0.0, its first value by the way that a button's value takes.
 fn deadzone(record: &[u8; 20]) -> bool {
-    let pair = scale::apply_deadzone(value(record, 0), value(record, 1), value(record, 2));
+    let tilted = scale::apply_deadzone(value(record, 0), value(record, 1), value(record, 2));
+    let pair = tilted.pair;
     let x = pair.x;
     let y = pair.y;
-    if gives(x, record, 3) {
-        return gives(y, record, 4);
+    if !gives(x, record, 3) {
+        return false;
     }
-    false
+    if !gives(y, record, 4) {
+        return false;
+    }
+    if word(record, 1) != 0 {
+        return true;
+    }
+    gives(
+        scale::shrink_value(value(record, 0), value(record, 2)),
+        record,
+        3,
+    )
 }
 
 fn jitter(record: &[u8; 20]) -> bool {

@@ -1,6 +1,8 @@
--- What a call on a lent hub leaves, with its answer as it crosses to C and Rust: the law book's answer, in the struct that stands for it. Definitions only.
+-- What a call on a lent hub leaves, with its answer as it crosses to C and Rust: the law book's answer, in the struct that stands for it.
 use Prim.Native.Nat.{ℕ}
+use mathlib.Core.Path.{_≡_, ap, _∙_}
 use mathlib.Core.List.{List}
+use Rattle.numbers.specs.declared.Tilt.{Tilt}
 use Rattle.rules.specs.declared.Hub.{Hub}
 use Rattle.rules.specs.declared.Answered.{Answered}
 use Rattle.rules.specs.declared.Registered.{Registered}
@@ -45,5 +47,9 @@ pub record ReportedHub : Type 0 where
 abbrev pub reported : Head → Listed → Columns → Report → List ℕ → ReportedHub
 reported d s t report out = record { hub = hubOf d s t; report = report; out = out }
 
-abbrev pub reportedOf : Run → ReportedHub
-reportedOf run = record { hub = run .pumped .hub; report = reportOf (run .pumped .answer); out = run .out }
+abbrev pub reportedOf : Run → Tilt → ReportedHub
+reportedOf run tilt = record { hub = run .pumped .hub; report = reportOf (run .pumped .answer) tilt; out = run .out }
+
+-- from the call's two equations
+pub reports-by : {r s : Run} {t u : Tilt} → r ≡ s → t ≡ u → reportedOf r t ≡ reportedOf s u
+reports-by {r} {s} {t} {u} e f = ap (λ (x : Run). reportedOf x t) e ∙ ap (reportedOf s) f

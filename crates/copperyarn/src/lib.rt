@@ -9,10 +9,12 @@ ghost use mathlib.Core.List.{List};
 ghost use Prim.Native.Nat.{ℕ};
 ghost use lib.Ieee.{Float};
 ghost use Rattle.rules.specs.Calls.{newOf, registerOf, renameOf, updateOf, insertOf, incOf, resetOf};
+ghost use Rattle.numbers.specs.Tilt.{tiltedOf};
 ghost use Rattle.rules.specs.Pump.{pumpOf};
+ghost use Rattle.rules.specs.Tilt.{pumpTilt};
 ghost use Rattle.rules.specs.Repeat.{repeatOf};
 ghost use Rattle.hub.specs.Lent.{Listed, Columns, listed, columns, hubOf};
-ghost use Rattle.crossing.specs.Crossing.{dueOf, dueBytes};
+ghost use Rattle.crossing.specs.Crossing.{tiltedPairOf, dueOf, dueBytes};
 ghost use Rattle.copperyarn.specs.Exports.{done, doneOf, enrolled, enrolledOf, reported, reportedOf};
 use columns::Marks;
 use columns::QueueBytes;
@@ -23,6 +25,7 @@ use crossing::Done;
 use crossing::Due;
 use crossing::Pumped;
 use crossing::Registered;
+use crossing::TiltedPair;
 use hub::Head;
 
 // ---- setting a desk up
@@ -144,7 +147,7 @@ pub extern "C" fn copperyarn_lent_rename<'s>(
 
 // ---- events
 
-// Takes records and waiting events, and writes what is handed out, 22 bytes an event. Refuses 14 and 8 for the whole call, and a record by 8, 6, 9, 10, 11, 12.
+// Takes records and waiting events, and writes what is handed out, 22 bytes an event; every answer has the report beside it. Refuses 14 and 8 for the whole call, and a record by 8, 6, 9, 10, 11, 12.
 #[no_mangle]
 pub extern "C" fn copperyarn_lent_pump<'s>(
     head: Head,
@@ -168,6 +171,9 @@ pub extern "C" fn copperyarn_lent_pump<'s>(
         (columns (now (hasbutton .exit)) (now (hasaxis .exit)) (now (values .exit)) (now (times .exit)) (now (marks .exit)) (now (queuebytes .exit)) (now (queuecodes .exit))) (r .report) (now (out .exit))
         ≡ reportedOf (pumpOf (hubOf head (listed (now (codes .entry)) (now (kinds .entry)) (now (names .entry)) (now (renames .entry)))
         (columns (now (hasbutton .entry)) (now (hasaxis .entry)) (now (values .entry)) (now (times .entry)) (now (marks .entry)) (now (queuebytes .entry)) (now (queuecodes .entry))))
+        (now (batch .entry)) place (now (out .entry)) allowance)
+        (pumpTilt (hubOf head (listed (now (codes .entry)) (now (kinds .entry)) (now (names .entry)) (now (renames .entry)))
+        (columns (now (hasbutton .entry)) (now (hasaxis .entry)) (now (values .entry)) (now (times .entry)) (now (marks .entry)) (now (queuebytes .entry)) (now (queuecodes .entry))))
         (now (batch .entry)) place (now (out .entry)) allowance) ⌝ }
 {
     let r = pump::pump(
@@ -190,10 +196,19 @@ pub extern "C" fn copperyarn_lent_pump<'s>(
     );
     let head = r.head;
     let answer = r.answer;
+    let tilt = r.tilt;
     Pumped {
         head,
-        report: crossing::report_of(answer),
+        report: crossing::report_of(answer, tilt),
     }
+}
+
+// The deadzone calculation by itself, as a calibration screen asks it: the pair, and which of three it was. Refuses nothing.
+#[no_mangle]
+pub extern "C" fn copperyarn_deadzone(x: f32, y: f32, threshold: f32) -> TiltedPair
+    ensures { λ r. ⌜ r ≡ tiltedPairOf (tiltedOf x y threshold) ⌝ }
+{
+    crossing::tilted_of(scale::apply_deadzone(x, y, threshold))
 }
 
 // WithQueued an event's bytes to the state: the refusal's number, 0 where it was done. Refuses 8, 6, 9, 11, 12.

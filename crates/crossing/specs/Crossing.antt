@@ -29,8 +29,10 @@ use Rattle.rules.specs.declared.NumberAnswer.{NumberAnswer}
 use Rattle.rules.specs.declared.NumberAnswer.the-variants as numberAnswer
 use Rattle.rules.specs.Events.{eventBytes}
 use Rattle.rules.specs.Pump.{drained, full, paused}
-use Rattle.rules.specs.Answers.{Said, served, bit, answerSays, registerSays, pumpSays, repeatSays, truthSays, valueSays, buttonSays, axisSays, numberSays}
+use Rattle.rules.specs.Answers.{Said, served, bit, answerSays, registerSays, pumpSays, tiltSays, repeatSays, truthSays, valueSays, buttonSays, axisSays, numberSays}
 use Rattle.numbers.specs.Constants.{zero32}
+use Rattle.numbers.specs.declared.Tilt.{Tilt}
+use Rattle.numbers.specs.declared.Tilted.{Tilted}
 use Rattle.crossing.specs.declared.Pad.{Pad}
 use Rattle.crossing.specs.declared.Truth.{Truth}
 use Rattle.crossing.specs.declared.Value.{Value}
@@ -38,6 +40,7 @@ use Rattle.crossing.specs.declared.Number.{Number}
 use Rattle.crossing.specs.declared.Button.{Button}
 use Rattle.crossing.specs.declared.Axis.{Axis}
 use Rattle.crossing.specs.declared.Report.{Report}
+use Rattle.crossing.specs.declared.TiltedPair.{TiltedPair}
 use Rattle.crossing.specs.declared.Due.{Due}
 
 -- ---- the structs
@@ -106,15 +109,20 @@ axisOf (axisAnswer.Data a) = knownAxis a
 axisOf axisAnswer.Absent = noAxis 0
 axisOf (axisAnswer.Refused number) = noAxis number
 
-abbrev pub reportBy : ℕ → ℕ → ℕ → ℕ → ℕ → Report
-reportBy refusal reason place events steps =
-    record { refusal = refusal; reason = reason; place = place; events = events; steps = steps }
+abbrev pub reportBy : ℕ → ℕ → ℕ → ℕ → ℕ → ℕ → Report
+reportBy refusal reason tilt place events steps =
+    record { refusal = refusal; reason = reason; tilt = tilt; place = place; events = events; steps = steps }
 
-abbrev pub reportOf : PumpAnswer → Report
-reportOf (pumpAnswer.Drained place events steps) = reportBy 0 drained place events steps
-reportOf (pumpAnswer.Full place events steps) = reportBy 0 full place events steps
-reportOf (pumpAnswer.Paused place events steps) = reportBy 0 paused place events steps
-reportOf (pumpAnswer.Refused number place events steps) = reportBy number 0 place events steps
+-- an answer, and the report beside it
+abbrev pub reportOf : PumpAnswer → Tilt → Report
+reportOf (pumpAnswer.Drained place events steps) tilt = reportBy 0 drained (tiltSays tilt) place events steps
+reportOf (pumpAnswer.Full place events steps) tilt = reportBy 0 full (tiltSays tilt) place events steps
+reportOf (pumpAnswer.Paused place events steps) tilt = reportBy 0 paused (tiltSays tilt) place events steps
+reportOf (pumpAnswer.Refused number place events steps) tilt = reportBy number 0 (tiltSays tilt) place events steps
+
+-- the deadzone calculation, which refuses nothing
+abbrev pub tiltedPairOf : Tilted → TiltedPair
+tiltedPairOf t = record { x = t .pair .x; y = t .pair .y; tilt = tiltSays (t .tilt) }
 
 abbrev pub dueOf : RepeatAnswer → Due
 dueOf (repeatAnswer.Due e) = record { refusal = 0; due = true }
@@ -181,11 +189,11 @@ reportSays r =
       values = cond (eqb (r .reason) 0) [] (r .reason ∷ []) ++ (r .place ∷ r .events ∷ r .steps ∷ []);
     }
 
-pub report-says : (a : PumpAnswer) → reportSays (reportOf a) ≡ pumpSays a
-report-says (pumpAnswer.Drained place events steps) = refl
-report-says (pumpAnswer.Full place events steps) = refl
-report-says (pumpAnswer.Paused place events steps) = refl
-report-says (pumpAnswer.Refused number place events steps) = refl
+pub report-says : (a : PumpAnswer) (t : Tilt) → (reportSays (reportOf a t) ≡ pumpSays a) × (reportOf a t .tilt ≡ tiltSays t)
+report-says (pumpAnswer.Drained place events steps) t = (refl, refl)
+report-says (pumpAnswer.Full place events steps) t = (refl, refl)
+report-says (pumpAnswer.Paused place events steps) t = (refl, refl)
+report-says (pumpAnswer.Refused number place events steps) t = (refl, refl)
 
 pub due-says : (a : RepeatAnswer) → said (dueOf a .refusal) (dueOf a .due) (dueBytes a []) ≡ repeatSays a
 due-says (repeatAnswer.Due e) = ap served (append-nil (eventBytes e))

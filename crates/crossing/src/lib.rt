@@ -3,8 +3,11 @@
 // `*Says` says is closed by computation there.
 ghost use mathlib.Core.Path.{_≡_};
 ghost use Rattle.crossing.specs.Crossing.{refusalOf, padOf, truthOf, valueOf, numberOf};
-ghost use Rattle.crossing.specs.Crossing.{knownButton, noButton, buttonOf, knownAxis, noAxis, axisOf, reportBy, reportOf, dueOf, dueBytes};
+ghost use Rattle.crossing.specs.Crossing.{knownButton, noButton, buttonOf, knownAxis, noAxis, axisOf, reportBy, reportOf, tiltedPairOf, dueOf, dueBytes};
+ghost use Rattle.rules.specs.Answers.{tiltSays};
 use hub::Head;
+use numbers::Tilt;
+use numbers::Tilted;
 use rules::Answer;
 use rules::AxisAnswer;
 use rules::AxisData;
@@ -23,6 +26,14 @@ const DRAINED: u8 = 1;
 const FULL: u8 = 2;
 
 const PAUSED: u8 = 3;
+// which of three the deadzone calculation was, or that no threshold was met
+const UNMET: u8 = 0;
+
+const INSIDE: u8 = 1;
+
+const BETWEEN: u8 = 2;
+
+const FULL_TILT: u8 = 3;
 
 // ---- the answers
 
@@ -76,14 +87,24 @@ pub struct Axis {
     pub counter: u64,
 }
 
-// What a pump did: why it stopped (0 where it was refused), the place in the batch, the events written and the steps made.
+// What a pump did: why it stopped (0 where it was refused), which of three the deadzone calculation was for its last axis event that met a threshold, the place in
+// the batch, the events written and the steps made.
 #[repr(C)]
 pub struct Report {
     pub refusal: u8,
     pub reason: u8,
+    pub tilt: u8,
     pub place: usize,
     pub events: usize,
     pub steps: usize,
+}
+
+// The deadzone calculation: the pair, and which of the three it was.
+#[repr(C)]
+pub struct TiltedPair {
+    pub x: f32,
+    pub y: f32,
+    pub tilt: u8,
 }
 
 // Whether a repeat is due; its event's bytes stand in the buffer that was lent.
@@ -273,17 +294,31 @@ pub fn axis_of(answer: AxisAnswer) -> Axis
     }
 }
 
-// What a pump did.
-pub fn report_of(answer: PumpAnswer) -> Report
-    ensures { λ r. ⌜ r ≡ reportOf answer ⌝ }
+// The number of a tilt.
+fn tilt_number(tilt: Tilt) -> u8
+    ensures { λ r. ⌜ r ≡ tiltSays tilt ⌝ }
 {
+    match tilt {
+        Tilt::Unmet => UNMET,
+        Tilt::Inside => INSIDE,
+        Tilt::Between => BETWEEN,
+        Tilt::Full => FULL_TILT,
+    }
+}
+
+// What a pump did, and its report.
+pub fn report_of(answer: PumpAnswer, tilt: Tilt) -> Report
+    ensures { λ r. ⌜ r ≡ reportOf answer tilt ⌝ }
+{
+    let t = tilt_number(tilt);
     match answer {
-        PumpAnswer::Drained(place, events, steps) => reported(0, DRAINED, place, events, steps),
-        PumpAnswer::Full(place, events, steps) => reported(0, FULL, place, events, steps),
-        PumpAnswer::Paused(place, events, steps) => reported(0, PAUSED, place, events, steps),
+        PumpAnswer::Drained(place, events, steps) => reported(0, DRAINED, t, place, events, steps),
+        PumpAnswer::Full(place, events, steps) => reported(0, FULL, t, place, events, steps),
+        PumpAnswer::Paused(place, events, steps) => reported(0, PAUSED, t, place, events, steps),
         PumpAnswer::Refused(number, place, events, steps) => reported(
             number,
             0,
+            t,
             place,
             events,
             steps,
@@ -291,15 +326,29 @@ pub fn report_of(answer: PumpAnswer) -> Report
     }
 }
 
-fn reported(refusal: u8, reason: u8, place: usize, events: usize, steps: usize) -> Report
-    ensures { λ r. ⌜ r ≡ reportBy refusal reason place events steps ⌝ }
+fn reported(refusal: u8, reason: u8, tilt: u8, place: usize, events: usize, steps: usize) -> Report
+    ensures { λ r. ⌜ r ≡ reportBy refusal reason tilt place events steps ⌝ }
 {
     Report {
         refusal: refusal,
         reason: reason,
+        tilt: tilt,
         place: place,
         events: events,
         steps: steps,
+    }
+}
+
+// The deadzone calculation.
+pub fn tilted_of(answer: Tilted) -> TiltedPair
+    ensures { λ r. ⌜ r ≡ tiltedPairOf answer ⌝ }
+{
+    let pair = answer.pair;
+    let tilt = answer.tilt;
+    TiltedPair {
+        x: pair.x,
+        y: pair.y,
+        tilt: tilt_number(tilt),
     }
 }
 

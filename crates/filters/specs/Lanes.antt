@@ -130,7 +130,7 @@ clearingOf z = eventIf (z .clears) (z .clearing)
 
 -- ---- the laws, by an event's kind
 
-abbrev made : ℕ → ℕ → EventType → Event
+abbrev pub made : ℕ → ℕ → EventType → Event
 made p k t = record { pad = p; time = k; event = t }
 
 module _ (p k : ℕ) (v : View) where

@@ -7,7 +7,9 @@ ghost use mathlib.Core.Bool.{cond};
 ghost use Rattle.numbers.specs.Constants.{zero32};
 ghost use Rattle.rules.specs.Filters as law;
 ghost use Rattle.filters.specs.Lanes.{zonedValue};
+ghost use Rattle.filters.specs.Meets.{without, zoneMeets};
 use numbers::Pair;
+use numbers::Tilt;
 use rules::Event;
 use rules::EventType;
 use rules::Flags;
@@ -40,20 +42,29 @@ pub fn jittered(v: View, e: Event) -> Event
 
 // ---- deadzone
 
-// the filter passes an event as it is
-fn passes(v: View, e: Event) -> Zoned
-    ensures { λ r. ⌜ r ≡ law.passes v e ⌝ }
+// What the deadzone makes of an event, and which of three its calculation was for an axis event that meets a threshold (W-205).
+pub struct Met {
+    pub zoned: Zoned,
+    pub tilt: Tilt,
+}
+
+// the filter passes an event as it is: no axis event, or no threshold
+fn passes(v: View, e: Event) -> Met
+    ensures { λ r. ⌜ r ≡ without (law.passes v e) ⌝ }
 {
     let flags = v.flags;
-    Zoned {
-        event: e,
-        clears: false,
-        clearing: e,
-        // field by field: a struct of two bytes that is copied whole is taken apart by shifts
-        flags: Flags {
-            own: flags.own,
-            partner: flags.partner,
+    Met {
+        zoned: Zoned {
+            event: e,
+            clears: false,
+            clearing: e,
+            // field by field: a struct of two bytes that is copied whole is taken apart by shifts
+            flags: Flags {
+                own: flags.own,
+                partner: flags.partner,
+            },
         },
+        tilt: Tilt::Unmet,
     }
 }
 
@@ -120,23 +131,26 @@ fn stick(v: View, e: Event, n: u8, c: u32, pair: Pair) -> Zoned
 }
 
 // gilrs's `deadzone`
-pub fn deadzoned(v: View, e: Event) -> Zoned
-    ensures { λ r. ⌜ r ≡ law.deadzonedOf v e ⌝ }
+pub fn deadzoned(v: View, e: Event) -> Met
+    ensures { λ r. ⌜ r ≡ zoneMeets v e ⌝ }
 {
     let t = e.event;
     match t {
         EventType::Axis(n, c, x) => {
             if v.dead {
                 let p = v.partner;
-                let pair = scale::apply_deadzone(x, beside(p.stands, p.value), v.threshold);
-                return stick(v, e, n, c, pair);
+                let f = scale::apply_deadzone(x, beside(p.stands, p.value), v.threshold);
+                let tilt = f.tilt;
+                return Met {
+                    zoned: stick(v, e, n, c, f.pair),
+                    tilt: tilt,
+                };
             }
             passes(v, e)
         }
         EventType::Changed(n, c, x) => {
             if v.dead {
-                let pair = scale::apply_deadzone(x, 0.0, v.threshold);
-                let y = pair.x;
+                let y = scale::shrink_value(x, v.threshold);
                 return passes(v, unless(v.own == y, e, EventType::Changed(n, c, y)));
             }
             passes(v, e)
@@ -157,8 +171,7 @@ pub fn zoned_value(own: f32, threshold: f32, e: Event) -> Event
     let t = e.event;
     match t {
         EventType::Changed(n, c, x) => {
-            let pair = scale::apply_deadzone(x, 0.0, threshold);
-            let y = pair.x;
+            let y = scale::shrink_value(x, threshold);
             unless(own == y, e, EventType::Changed(n, c, y))
         }
         EventType::Axis(_, _, _) => e,
@@ -172,8 +185,9 @@ pub fn zoned_value(own: f32, threshold: f32, e: Event) -> Event
 }
 
 // An event that no hat turns, through jitter and deadzone.
-pub fn unturned(v: View, e: Event) -> Zoned
-    ensures { λ r. ⌜ r ≡ law.deadzonedOf v (law.jitteredOf v e) ⌝ }
+pub fn unturned(v: View, e: Event) -> Met
+    ensures { λ r. ⌜ r ≡ zoneMeets v (law.jitteredOf v e) ⌝ }
 {
-    deadzoned(v, jittered(v, e))
+    let kept = jittered(v, e);
+    deadzoned(v, kept)
 }

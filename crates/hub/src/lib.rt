@@ -1,5 +1,6 @@
 // The hub in place. What is small goes by value, as the head; each array is lent by itself and changed where it stands, so that no call copies the hub. Which
 // hub of the law book head and arrays stand for is said in specs/Lent.antt. No function: the calls stand in the crates above.
+use numbers::Tilt;
 use rules::Answer;
 use rules::PumpAnswer;
 use rules::RegisterAnswer;
@@ -31,6 +32,8 @@ pub struct Head {
 pub struct PumpedHead {
     pub head: Head,
     pub answer: PumpAnswer,
+    // the report beside every answer (W-205)
+    pub tilt: Tilt,
 }
 
 pub struct AnsweredHead {

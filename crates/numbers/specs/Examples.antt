@@ -10,6 +10,8 @@ use Rattle.numbers.specs.Clamp.{clampOf}
 use Rattle.numbers.specs.Root.{sqrtOf, magnitudeOf}
 use Rattle.numbers.specs.Scale.{oddOf, axisValueOf, buttonValueOf, thresholdOf}
 use Rattle.numbers.specs.Deadzone.{deadzoneOf}
+use Rattle.numbers.specs.Tilt.{tiltOf}
+use Rattle.numbers.specs.declared.Tilt.the-variants.{Inside, Between, Full}
 use Rattle.numbers.specs.Jitter.{jitterOf}
 
 -- the value with these bits
@@ -93,6 +95,31 @@ some-threshold = refl
 at-threshold : deadzoneOf (value 0x3e800000) zero32 (value 0x3e800000) ≡ record { x = zero32; y = zero32 }
 unfolding deadzoneOf Ieee.ofBits Ieee.add Ieee.sub Ieee.mul Ieee.div Ieee.lt Ieee.le
 at-threshold = refl
+
+-- which of the three: at the threshold is inside
+tilt-at-threshold : tiltOf (value 0x3e800000) zero32 (value 0x3e800000) ≡ Inside
+unfolding tiltOf Ieee.ofBits Ieee.add Ieee.mul Ieee.lt Ieee.le Ieee.eq
+tilt-at-threshold = refl
+
+-- (0.75, 0) at 0.5
+tilt-between : tiltOf (value 0x3f400000) zero32 (value 0x3f000000) ≡ Between
+unfolding tiltOf Ieee.ofBits Ieee.add Ieee.mul Ieee.lt Ieee.le Ieee.eq
+tilt-between = refl
+
+-- the corner at 0.5, whose magnitude is held to 1
+tilt-full : tiltOf one32 one32 (value 0x3f000000) ≡ Full
+unfolding tiltOf Ieee.ofBits Ieee.add Ieee.mul Ieee.lt Ieee.le Ieee.eq
+tilt-full = refl
+
+-- (0.8, 0.6) at 0.5: the partner counts
+tilt-beside : tiltOf (value 0x3f4ccccd) (value 0x3f19999a) (value 0x3f000000) ≡ Full
+unfolding tiltOf Ieee.ofBits Ieee.add Ieee.mul Ieee.lt Ieee.le Ieee.eq
+tilt-beside = refl
+
+-- at a threshold of 1 full tilt is inside
+tilt-at-one : tiltOf one32 zero32 one32 ≡ Inside
+unfolding tiltOf Ieee.ofBits Ieee.add Ieee.mul Ieee.lt Ieee.le Ieee.eq
+tilt-at-one = refl
 
 -- 0.505 jitters against 0.5, 0.0 never does
 near-stored : jitterOf (value 0x3f0147ae) (value 0x3f000000) ≡ true

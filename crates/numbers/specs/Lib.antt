@@ -3,6 +3,7 @@ pub mod Clamp
 pub mod Root
 pub mod Scale
 pub mod Deadzone
+pub mod Tilt
 pub mod Jitter
 pub mod Examples
 pub mod RootTable

@@ -1,20 +1,22 @@
 // A turn's gates: the marks of a record that joins or leaves, and what a taken event's passing changes, behind one test each, so that only what is asked for is
 // read. Each answer is the law book's, as if all had been gathered. The gates stand inside functions that are lent the arrays, not in the pump's loop.
+mod lanes;
+
 ghost use mathlib.Core.Path.{_≡_};
 ghost use mathlib.Core.Bool.{cond};
 ghost use mathlib.Core.List.{[]};
 ghost use Prim.Native.Nat.{_≤_};
 ghost use lib.ListN.{getD};
-ghost use lib.Dec.{eqb};
 ghost use Rattle.rules.specs.Names.{nowhere};
-ghost use Rattle.rules.specs.Sheets.{elementAxis};
 ghost use Rattle.rules.specs.Events.{nameOf, codeOf, eventIf};
 ghost use Rattle.rules.specs.Filters.{dpadOf};
-ghost use Rattle.rules.specs.Hub.{convertsIn, viewAt, viewOf, pastElement};
+ghost use Rattle.rules.specs.Tilt.{metOf, latest};
+ghost use Rattle.rules.specs.Hub.{viewAt, viewOf, pastElement};
 ghost use Rattle.pad.specs.Found.{Placed};
 ghost use Rattle.columns.specs.Columns.{elementsOf, buttonsOf, axesOf};
 ghost use Rattle.cells.specs.Seen.{storedAt};
-ghost use Rattle.filters.specs.Lanes.{laneOf, zonedValue, stickZonedOf};
+ghost use Rattle.filters.specs.Lanes.{zonedValue, stickZonedOf};
+ghost use Rattle.filters.specs.Meets.{stickMetOf};
 ghost use Rattle.queueing.specs.Queued.{Pushed};
 ghost use Rattle.taking.specs.Taking.{givesOf};
 ghost use Rattle.passing.specs.Passing.{seenHub, directedAt, hatView, MarkedIs};
@@ -25,9 +27,8 @@ use columns::QueueBytes;
 use columns::QueueCodes;
 use columns::Times;
 use columns::Values;
-use rules::ELEMENT_AXIS;
+use numbers::Tilt;
 use rules::Event;
-use rules::EventType;
 use rules::FLAGS_PER_PAD;
 use rules::Flags;
 use rules::KIND_CONNECTED;
@@ -35,8 +36,6 @@ use rules::PLACES_PER_PAD;
 use rules::Partner;
 use rules::View;
 use taking::Taken;
-
-// ---- the marks of a taken record
 
 // Connected and Disconnected alone set or take off marks.
 pub fn mark_joins(
@@ -65,55 +64,6 @@ pub fn mark_joins(
 }
 
 // ---- a taken event served: the filters, the flags and the queue in one
-
-const NO_LANE: u8 = 0;
-
-const VALUE_LANE: u8 = 1;
-
-const HAT_LANE: u8 = 2;
-
-const STICK_LANE: u8 = 3;
-
-// Which filters look at an event: none, or those of a button's value, of a hat that turns, of a stick.
-fn lane_of<'a>(
-    kinds: &'a [u8; 208],
-    renamed: &'a [bool; 4],
-    converts: &'a [bool; 4],
-    newconverts: &'a [bool; 4],
-    on: bool,
-    e: Event,
-    place: usize,
-) -> u8
-    ensures { λ r. ⌜ r ≡ laneOf on (convertsIn (now (renamed .entry)) (now (converts .entry)) (now (newconverts .entry)) (e .pad))
-        (eqb (getD (now (kinds .entry)) place 0) elementAxis) e ⌝ }
-{
-    if !on {
-        return NO_LANE;
-    }
-    let t = e.event;
-    match t {
-        EventType::Axis(n, _, _) => {
-            if names::is_hat(n) {
-                if gather::converts_now(renamed, converts, newconverts, e.pad) {
-                    return HAT_LANE;
-                }
-            }
-            STICK_LANE
-        }
-        EventType::Changed(_, _, _) => {
-            if pad::kind_at(kinds, place) == ELEMENT_AXIS {
-                return VALUE_LANE;
-            }
-            NO_LANE
-        }
-        EventType::Pressed(_, _) => NO_LANE,
-        EventType::Released(_, _) => NO_LANE,
-        EventType::Repeated(_, _) => NO_LANE,
-        EventType::Connected => NO_LANE,
-        EventType::Disconnected => NO_LANE,
-        EventType::Dropped => NO_LANE,
-    }
-}
 
 // What a record queues itself, where it does; how many wait then.
 fn push_next(
@@ -146,6 +96,24 @@ pub struct Served {
     pub event: Event,
     pub waiting: u8,
     pub place: usize,
+}
+
+// A served event, and which of three the deadzone calculation was for the call's last axis event that met a threshold (W-205).
+pub struct Passed {
+    pub served: Served,
+    pub tilt: Tilt,
+}
+
+// What was met now, or else what was met before.
+fn latest(met: Tilt, before: Tilt) -> Tilt
+    ensures { λ r. ⌜ r ≡ latest met before ⌝ }
+{
+    match met {
+        Tilt::Unmet => before,
+        Tilt::Inside => Tilt::Inside,
+        Tilt::Between => Tilt::Between,
+        Tilt::Full => Tilt::Full,
+    }
 }
 
 // A button's value through the deadzone.
@@ -267,14 +235,19 @@ fn pass_stick<'a>(
     waiting: u8,
     e: Event,
     place: usize,
-) -> Served
+    before: Tilt,
+) -> Passed
     requires { ⌜ place ≤ nowhere ⌝ }
-    ensures { λ r. ⌜ (r .place ≡ place) × (StickIs (stickZonedOf (viewAt (seenHub (now (codes .entry)) (now (kinds .entry)) (now (names .entry)) (now (renames .entry))
+    ensures { λ r. ⌜ (r .served .place ≡ place) × (StickIs (stickZonedOf (viewAt (seenHub (now (codes .entry)) (now (kinds .entry)) (now (names .entry)) (now (renames .entry))
         (now (renamed .entry)) [] [] (now (hasbutton .entry)) (now (hasaxis .entry)) (elementsOf (now (values .entry)) (now (marks .entry)))
         (buttonsOf (now (values .entry)) (now (times .entry)) (now (marks .entry))) (axesOf (now (values .entry)) (now (times .entry))) (now (flags .entry)))
         (e .pad) (nameOf e) place) e) e (now (flags .entry)) head waiting
-        (now (values .entry)) (now (times .entry)) (now (queuebytes .entry)) (now (queuecodes .entry)) r (now (flags .exit))
-        (now (values .exit)) (now (times .exit)) (now (queuebytes .exit)) (now (queuecodes .exit))) ⌝ }
+        (now (values .entry)) (now (times .entry)) (now (queuebytes .entry)) (now (queuecodes .entry)) (r .served) (now (flags .exit))
+        (now (values .exit)) (now (times .exit)) (now (queuebytes .exit)) (now (queuecodes .exit)))
+        × (r .tilt ≡ latest (stickMetOf (viewAt (seenHub (now (codes .entry)) (now (kinds .entry)) (now (names .entry)) (now (renames .entry))
+        (now (renamed .entry)) [] [] (now (hasbutton .entry)) (now (hasaxis .entry)) (elementsOf (now (values .entry)) (now (marks .entry)))
+        (buttonsOf (now (values .entry)) (now (times .entry)) (now (marks .entry))) (axesOf (now (values .entry)) (now (times .entry))) (now (flags .entry)))
+        (e .pad) (nameOf e) place) e) before) ⌝ }
 {
     let s = gather::stick_places(
         codes,
@@ -291,29 +264,39 @@ fn pass_stick<'a>(
     );
     let v = cells::view_in(values, times, marks, s);
     let f = filters::unturned(v, e);
-    let m = f.flags;
+    let met = f.tilt;
+    let zoned = f.zoned;
+    let m = zoned.flags;
     pad::mark_flag(flags, s.flag, m.own);
     pad::mark_flag(flags, s.other, m.partner);
-    let z = f.event;
-    if f.clears {
-        return Served {
-            event: z,
-            waiting: queueing::push(
-                values,
-                times,
-                queuebytes,
-                queuecodes,
-                head,
-                waiting,
-                f.clearing,
-            ),
-            place: place,
+    let z = zoned.event;
+    let tilt = latest(met, before);
+    if zoned.clears {
+        let more = queueing::push(
+            values,
+            times,
+            queuebytes,
+            queuecodes,
+            head,
+            waiting,
+            zoned.clearing,
+        );
+        return Passed {
+            served: Served {
+                event: z,
+                waiting: more,
+                place: place,
+            },
+            tilt: tilt,
         };
     }
-    Served {
-        event: z,
-        waiting: waiting,
-        place: place,
+    Passed {
+        served: Served {
+            event: z,
+            waiting: waiting,
+            place: place,
+        },
+        tilt: tilt,
     }
 }
 
@@ -336,35 +319,47 @@ pub fn serve<'a>(
     flags: &mut [bool; 24],
     on: bool,
     t: Taken,
-) -> Served
+    before: Tilt,
+) -> Passed
     requires { ⌜ Placed (now codes) (t .event .pad) (codeOf (t .event)) (t .place) ⌝ }
-    ensures { λ r. ⌜ (SentIs (now (codes .entry)) on r) × (ServedIs on (viewOf (seenHub (now (codes .entry)) (now (kinds .entry)) (now (names .entry)) (now (renames .entry))
+    ensures { λ r. ⌜ (SentIs (now (codes .entry)) on (r .served)) × (ServedIs on (viewOf (seenHub (now (codes .entry)) (now (kinds .entry)) (now (names .entry)) (now (renames .entry))
         (now (renamed .entry)) (now (converts .entry)) (now (newconverts .entry)) (now (hasbutton .entry)) (now (hasaxis .entry))
         (elementsOf (now (values .entry)) (now (marks .entry))) (buttonsOf (now (values .entry)) (now (times .entry)) (now (marks .entry)))
         (axesOf (now (values .entry)) (now (times .entry))) (now (flags .entry))) (t .event)) (givesOf t) (now (flags .entry)) (t .head) (t .waiting)
-        (now (values .entry)) (now (times .entry)) (now (queuebytes .entry)) (now (queuecodes .entry)) r (now (flags .exit))
-        (now (values .exit)) (now (times .exit)) (now (queuebytes .exit)) (now (queuecodes .exit))) ⌝ }
+        (now (values .entry)) (now (times .entry)) (now (queuebytes .entry)) (now (queuecodes .entry)) (r .served) (now (flags .exit))
+        (now (values .exit)) (now (times .exit)) (now (queuebytes .exit)) (now (queuecodes .exit)))
+        × (r .tilt ≡ latest (metOf on (viewOf (seenHub (now (codes .entry)) (now (kinds .entry)) (now (names .entry)) (now (renames .entry))
+        (now (renamed .entry)) (now (converts .entry)) (now (newconverts .entry)) (now (hasbutton .entry)) (now (hasaxis .entry))
+        (elementsOf (now (values .entry)) (now (marks .entry))) (buttonsOf (now (values .entry)) (now (times .entry)) (now (marks .entry)))
+        (axesOf (now (values .entry)) (now (times .entry))) (now (flags .entry))) (t .event)) (t .event)) before) ⌝ }
 {
     let more = push_next(values, times, queuebytes, queuecodes, t);
     let e = t.event;
     let place = t.place;
-    let lane = lane_of(kinds, renamed, converts, newconverts, on, e, place);
-    if lane == NO_LANE {
-        return Served {
-            event: e,
-            waiting: more,
-            place: place,
+    let lane = lanes::lane_of(kinds, renamed, converts, newconverts, on, e, place);
+    if lane == lanes::NO_LANE {
+        return Passed {
+            served: Served {
+                event: e,
+                waiting: more,
+                place: place,
+            },
+            tilt: before,
         };
     }
-    if lane == VALUE_LANE {
-        return Served {
-            event: value_sent(hasbutton, hasaxis, values, times, marks, e, place),
-            waiting: more,
-            place: place,
+    if lane == lanes::VALUE_LANE {
+        let u = value_sent(hasbutton, hasaxis, values, times, marks, e, place);
+        return Passed {
+            served: Served {
+                event: u,
+                waiting: more,
+                place: place,
+            },
+            tilt: before,
         };
     }
-    if lane == HAT_LANE {
-        return turn_hat(
+    if lane == lanes::HAT_LANE {
+        let turned = turn_hat(
             codes,
             hasbutton,
             values,
@@ -376,6 +371,10 @@ pub fn serve<'a>(
             more,
             e,
         );
+        return Passed {
+            served: turned,
+            tilt: before,
+        };
     }
     pass_stick(
         codes,
@@ -395,5 +394,6 @@ pub fn serve<'a>(
         more,
         e,
         place,
+        before,
     )
 }

@@ -1,8 +1,10 @@
 // Document 01's pump on a hub that is lent: the head goes in and comes back by value, each array is lent by itself and changed where it stands, so that no call
 // copies the hub. A turn of the loop takes an event, makes a record's marks, and serves the event, each in one call that is lent the arrays; a kept event is
-// settled in the state and written. The contract is the equation of the pump that takes the hub by value, at the hub that head and arrays stand for.
+// settled in the state and written. The contract is the equation of the pump that takes the hub by value, at the hub that head and arrays stand for, and one for
+// the report beside each answer.
 ghost use mathlib.Core.Path.{_≡_};
 ghost use Rattle.rules.specs.Pump.{pumpOf};
+ghost use Rattle.rules.specs.Tilt.{pumpTilt};
 ghost use Rattle.hub.specs.Lent.{listed, columns, hubOf, pumped};
 ghost use Rattle.pump.specs.Stepped.{steppedHead};
 use columns::Marks;
@@ -12,6 +14,7 @@ use columns::Times;
 use columns::Values;
 use hub::Head;
 use hub::PumpedHead;
+use numbers::Tilt;
 use rules::EVENT_SIZE;
 use rules::PumpAnswer;
 
@@ -36,8 +39,8 @@ fn stepped(
 }
 
 // Takes records from a batch, and waiting events before them, one a step; sends each through the filters, keeps the state, and writes what is handed out as
-// bytes. It stops Drained, Full or Paused, or at a record that is refused, with the place in the batch, the events written and the steps made. Refuses 14
-// and 8 for the whole call, and a record by 8, 6, 9, 10, 11, 12.
+// bytes. It stops Drained, Full or Paused, or at a record that is refused, with the place in the batch, the events written and the steps made, and reports which of
+// three the deadzone calculation was for its last axis event that met a threshold. Refuses 14 and 8 for the whole call, and a record by 8, 6, 9, 10, 11, 12.
 pub fn pump<'s>(
     head: Head,
     codes: &'s [u32; 208],
@@ -56,14 +59,18 @@ pub fn pump<'s>(
     out: &mut [u8],
     allowance: u16,
 ) -> PumpedHead
-    ensures { λ r. ⌜ pumped r (listed (now (codes .entry)) (now (kinds .entry)) (now (names .entry)) (now (renames .entry)))
+    ensures { λ r. ⌜ (pumped r (listed (now (codes .entry)) (now (kinds .entry)) (now (names .entry)) (now (renames .entry)))
         (columns (now (hasbutton .exit)) (now (hasaxis .exit)) (now (values .exit)) (now (times .exit)) (now (marks .exit))
         (now (queuebytes .exit)) (now (queuecodes .exit)))
         (now (out .exit))
         ≡ pumpOf (hubOf head (listed (now (codes .entry)) (now (kinds .entry)) (now (names .entry)) (now (renames .entry)))
         (columns (now (hasbutton .entry)) (now (hasaxis .entry)) (now (values .entry)) (now (times .entry)) (now (marks .entry))
         (now (queuebytes .entry)) (now (queuecodes .entry))))
-        (now (batch .entry)) place (now (out .entry)) allowance ⌝ }
+        (now (batch .entry)) place (now (out .entry)) allowance)
+        × (r .tilt ≡ pumpTilt (hubOf head (listed (now (codes .entry)) (now (kinds .entry)) (now (names .entry)) (now (renames .entry)))
+        (columns (now (hasbutton .entry)) (now (hasaxis .entry)) (now (values .entry)) (now (times .entry)) (now (marks .entry))
+        (now (queuebytes .entry)) (now (queuecodes .entry))))
+        (now (batch .entry)) place (now (out .entry)) allowance) ⌝ }
 {
     let settings = head;
     let refused = refusals::pump_refusal(batch.len(), out.len(), place);
@@ -71,6 +78,7 @@ pub fn pump<'s>(
         return PumpedHead {
             head: settings,
             answer: PumpAnswer::Refused(refused, place, 0, 0),
+            tilt: Tilt::Unmet,
         };
     }
     // what steps change of the head
@@ -88,6 +96,7 @@ pub fn pump<'s>(
     let mut filled: usize = 0;
     let most = allowance as usize;
     let mut left = most;
+    let mut tilt = Tilt::Unmet;
     loop {
         let sent = loop {
             let why = turn::stop(waiting, batch.len() - at, out.len() - filled, left);
@@ -95,6 +104,7 @@ pub fn pump<'s>(
                 return PumpedHead {
                     head: stepped(settings, connected, renamed, flags, front, waiting),
                     answer: turn::stop_answer(why, at, filled / EVENT_SIZE, most - left),
+                    tilt: tilt,
                 };
             }
             // gather and decide: what is taken
@@ -123,6 +133,7 @@ pub fn pump<'s>(
                 return PumpedHead {
                     head: stepped(settings, connected, renamed, flags, front, waiting),
                     answer: PumpAnswer::Refused(taken.number, at, filled / EVENT_SIZE, most - left),
+                    tilt: tilt,
                 };
             }
             // commit: the marks of a taken record, the ring, the place
@@ -139,7 +150,7 @@ pub fn pump<'s>(
             front = taken.head;
             left = left - 1;
             // what the filters make of the event; commit: flags and queue
-            let served = passing::serve(
+            let passed = passing::serve(
                 codes,
                 kinds,
                 names,
@@ -157,7 +168,10 @@ pub fn pump<'s>(
                 &mut flags,
                 settings.filters,
                 taken,
+                tilt,
             );
+            tilt = passed.tilt;
+            let served = passed.served;
             waiting = served.waiting;
             if events::kept(settings.filters, served.event) {
                 break served;

@@ -1,4 +1,5 @@
--- How a run goes from where it stands: it stops, it refuses the next record, or it makes a step. By the verdict, which the code works out in two tests.
+-- How a run goes from where it stands, and its report with it (W-205): it stops, it refuses the next record, or it makes a step. By the verdict, which the code
+-- works out in two tests.
 use Prim.Native.Nat.{ℕ, zero, suc, _-_, _*_, _≤_, _<_}
 use mathlib.Core.Path.{_≡_, refl, sym, _∙_, ap}
 use mathlib.Core.Bool.{Bool, true, false, cond, _&&_, _||_}
@@ -7,6 +8,8 @@ use lib.ListN.{length}
 use lib.Dec.{eqb, ltb}
 use native.Mathlib.Omega.{arith}
 use borrow.Author.Tests.{ltb-false}
+use Rattle.numbers.specs.declared.Tilt.{Tilt}
+use Rattle.numbers.specs.declared.Tilt.the-variants.{Unmet}
 use Rattle.rules.specs.declared.Hub.{Hub}
 use Rattle.rules.specs.declared.Pumped.{Pumped}
 use Rattle.rules.specs.declared.PumpAnswer.{PumpAnswer}
@@ -16,17 +19,34 @@ use Rattle.rules.specs.Forms.{eventSize}
 use Rattle.rules.specs.Refusals.{pumpRefusal}
 use Rattle.rules.specs.Step.{nextRecordOf, stepRefusal}
 use Rattle.rules.specs.Pump.{Progress, Run, Verdict, going, stopping, refusing, verdictBy, verdictOf, stopOf, stopAnswer, ended, endedBy, stepped, runOf, startOf, pumpBy, pumpOf}
+use Rattle.rules.specs.Tilt.{noted, tiltRun, pumpTiltBy, pumpTilt}
 
--- what a call leaves: its answer with the hub, and the out buffer
-abbrev pub leaves : Pumped → List ℕ → Run
-leaves p out = record { pumped = p; out = out }
+-- a run, and what is reported beside it
+pub record Reported : Type 0 where
+  pub run : Run
+  pub tilt : Tilt
+
+-- what a call leaves: its answer with the hub, the out buffer, and the report
+abbrev pub leaves : Pumped → List ℕ → Tilt → Reported
+leaves p out tilt = record { run = record { pumped = p; out = out }; tilt = tilt }
 
 abbrev pub standing : Hub → ℕ → List ℕ → ℕ → ℕ → Progress
 standing h at out events steps = record { hub = h; at = at; out = out; events = events; steps = steps }
 
--- the run that is left from where the pump stands
-abbrev pub rest : ℕ → List ℕ → Progress → Run
-rest left s p = runOf left (verdictOf left s p) s p
+abbrev runBy : ℕ → Verdict → List ℕ → Progress → Tilt → Reported
+runBy left v s p before = record { run = runOf left v s p; tilt = tiltRun left v s p before }
+
+-- the run that is left from where the pump stands, `before` being what was met so far
+abbrev pub rest : ℕ → List ℕ → Progress → Tilt → Reported
+rest left s p before = runBy left (verdictOf left s p) s p before
+
+-- the whole call
+abbrev pub call : Hub → List ℕ → ℕ → List ℕ → ℕ → Reported
+call h s place out allowance = record { run = pumpOf h s place out allowance; tilt = pumpTilt h s place out allowance }
+
+-- run and report, each by itself
+pub each : {r q : Reported} → r ≡ q → (r .run ≡ q .run) × (r .tilt ≡ q .tilt)
+each e = (ap (λ (r : Reported). r .run) e, ap (λ (r : Reported). r .tilt) e)
 
 -- ---- the verdict
 
@@ -44,15 +64,19 @@ goes zero zero z h = refl
 goes zero (suc number) z h = absurd (omega arith)
 goes (suc why) refusal z h = absurd (omega arith)
 
-ends-stopping : (left why : ℕ) (s : List ℕ) (p : Progress) → runOf left (stopping why) s p ≡ endedBy (stopping why) p
-unfolding runOf
-ends-stopping zero why s p = refl
-ends-stopping (suc left) why s p = refl
+ends-stopping :
+    (left why : ℕ) (s : List ℕ) (p : Progress) (before : Tilt) →
+    runBy left (stopping why) s p before ≡ record { run = endedBy (stopping why) p; tilt = before }
+unfolding runOf tiltRun
+ends-stopping zero why s p before = refl
+ends-stopping (suc left) why s p before = refl
 
-ends-refusing : (left number : ℕ) (s : List ℕ) (p : Progress) → runOf left (refusing number) s p ≡ endedBy (refusing number) p
-unfolding runOf
-ends-refusing zero number s p = refl
-ends-refusing (suc left) number s p = refl
+ends-refusing :
+    (left number : ℕ) (s : List ℕ) (p : Progress) (before : Tilt) →
+    runBy left (refusing number) s p before ≡ record { run = endedBy (refusing number) p; tilt = before }
+unfolding runOf tiltRun
+ends-refusing zero number s p before = refl
+ends-refusing (suc left) number s p before = refl
 
 -- ---- where a stop is answered, and where none is
 
@@ -79,42 +103,49 @@ roomy waiting more room left e z =
 
 -- ---- the laws of a run
 
-module _ (h : Hub) (s : List ℕ) (at : ℕ) (out : List ℕ) (events steps left : ℕ) {why : ℕ}
+module _ (h : Hub) (s : List ℕ) (at : ℕ) (out : List ℕ) (events steps left : ℕ) (before : Tilt) {why : ℕ}
     (stop : why ≡ stopOf (h .waiting) (length s - at) (length out - eventSize * events) left) where
+  abbrev here : Progress
+  here = standing h at out events steps
+
   -- the verdict, by the reason that the code worked out
-  verdict-is : verdictOf left s (standing h at out events steps) ≡ verdictBy why (stepRefusal h (nextRecordOf (h .waiting) s at))
+  verdict-is : verdictOf left s here ≡ verdictBy why (stepRefusal h (nextRecordOf (h .waiting) s at))
   unfolding verdictOf
   verdict-is = rw stop
 
-  by-verdict : {v : Verdict} → verdictOf left s (standing h at out events steps) ≡ v → rest left s (standing h at out events steps) ≡ runOf left v s (standing h at out events steps)
-  by-verdict e = ap (λ (v : Verdict). runOf left v s (standing h at out events steps)) e
+  by-verdict : {v : Verdict} → verdictOf left s here ≡ v → rest left s here before ≡ runBy left v s here before
+  by-verdict e = ap (λ (v : Verdict). runBy left v s here before) e
 
-  pub run-stops : {a : PumpAnswer} → 0 < why → a ≡ stopAnswer why at events steps → leaves (record { hub = h; answer = a }) out ≡ rest left s (standing h at out events steps)
+  pub run-stops : {a : PumpAnswer} → 0 < why → a ≡ stopAnswer why at events steps → leaves (record { hub = h; answer = a }) out before ≡ rest left s here before
   run-stops p e =
       rw e
-      (sym
-      (by-verdict (verdict-is ∙ stops why (stepRefusal h (nextRecordOf (h .waiting) s at)) p) ∙ ends-stopping left why s (standing h at out events steps)))
+      (sym (by-verdict (verdict-is ∙ stops why (stepRefusal h (nextRecordOf (h .waiting) s at)) p) ∙ ends-stopping left why s here before))
 
   module _ {number : ℕ} (z : why ≤ 0) (refusal : number ≡ stepRefusal h (nextRecordOf (h .waiting) s at)) where
-    pub run-refuses : 0 < number → leaves (record { hub = h; answer = pumpAnswer.Refused number at events steps }) out ≡ rest left s (standing h at out events steps)
+    pub run-refuses :
+        0 < number → leaves (record { hub = h; answer = pumpAnswer.Refused number at events steps }) out before ≡ rest left s here before
     run-refuses p =
         sym
-        (by-verdict (verdict-is ∙ ap (verdictBy why) (sym refusal) ∙ refuses why number z p)
-        ∙ ends-refusing left number s (standing h at out events steps))
+        (by-verdict (verdict-is ∙ ap (verdictBy why) (sym refusal) ∙ refuses why number z p) ∙ ends-refusing left number s here before)
 
-    goes-on : (k : ℕ) (p : Progress) → runOf (suc k) going s p ≡ rest k s (stepped s p)
-    unfolding runOf
+    goes-on : (k : ℕ) (p : Progress) → runBy (suc k) going s p before ≡ rest k s (stepped s p) (noted s p before)
+    unfolding runOf tiltRun
     goes-on k p = refl
 
     -- a step more
-    pub run-goes : {p : Progress} → number ≤ 0 → p ≡ stepped s (standing h at out events steps) → rest left s (standing h at out events steps) ≡ rest (left - 1) s p
-    run-goes {p} y e =
+    pub run-goes :
+        {p : Progress} {tilt : Tilt} →
+        number ≤ 0 →
+        p ≡ stepped s here →
+        tilt ≡ noted s here before →
+        rest left s here before ≡ rest (left - 1) s p tilt
+    run-goes {p} y e met =
         let g = roomy (h .waiting) (length s - at) (length out - eventSize * events) left stop z in
         let k : left ≡ suc (left - 1) = omega arith in
-        rw e
+        rw (e, met)
         (by-verdict (verdict-is ∙ ap (verdictBy why) (sym refusal) ∙ goes why number z y)
-        ∙ ap (λ (n : ℕ). runOf n going s (standing h at out events steps)) k
-        ∙ goes-on (left - 1) (standing h at out events steps))
+        ∙ ap (λ (n : ℕ). runBy n going s here before) k
+        ∙ goes-on (left - 1) here)
 
 -- ---- the call
 
@@ -140,19 +171,31 @@ accepted batch out place e z =
       place-small = ltb-false batch place (g .2);
     }
 
-by-number : (number : ℕ) (h : Hub) (s : List ℕ) (place : ℕ) (out : List ℕ) (allowance : ℕ) → 0 < number → pumpBy number h s place out allowance ≡ ended (pumpAnswer.Refused number place 0 0) (startOf h place out)
+-- a call by its refusal's number
+abbrev callBy : ℕ → Hub → List ℕ → ℕ → List ℕ → ℕ → Reported
+callBy number h s place out allowance = record { run = pumpBy number h s place out allowance; tilt = pumpTiltBy number h s place out allowance }
+
+by-number :
+    (number : ℕ) (h : Hub) (s : List ℕ) (place : ℕ) (out : List ℕ) (allowance : ℕ) →
+    0 < number →
+    callBy number h s place out allowance ≡ record { run = ended (pumpAnswer.Refused number place 0 0) (startOf h place out); tilt = Unmet }
 by-number zero h s place out allowance p = absurd (omega arith)
 by-number (suc number) h s place out allowance p = refl
 
-by-none : (number : ℕ) (h : Hub) (s : List ℕ) (place : ℕ) (out : List ℕ) (allowance : ℕ) → number ≤ 0 → pumpBy number h s place out allowance ≡ rest allowance s (startOf h place out)
+by-none :
+    (number : ℕ) (h : Hub) (s : List ℕ) (place : ℕ) (out : List ℕ) (allowance : ℕ) →
+    number ≤ 0 →
+    callBy number h s place out allowance ≡ rest allowance s (startOf h place out) Unmet
 by-none zero h s place out allowance z = refl
 by-none (suc number) h s place out allowance z = absurd (omega arith)
 
 module _ (h : Hub) (s : List ℕ) (place : ℕ) (out : List ℕ) (allowance : ℕ) {number : ℕ} (e : number ≡ pumpRefusal (length s) (length out) place) where
-  pub pump-refuses : 0 < number → leaves (record { hub = h; answer = pumpAnswer.Refused number place 0 0 }) out ≡ pumpOf h s place out allowance
-  unfolding pumpOf
-  pump-refuses p = sym (ap (λ (n : ℕ). pumpBy n h s place out allowance) (sym e) ∙ by-number number h s place out allowance p)
+  call-by : call h s place out allowance ≡ callBy number h s place out allowance
+  unfolding pumpOf pumpTilt
+  call-by = ap (λ (n : ℕ). callBy n h s place out allowance) (sym e)
 
-  pub pump-runs : number ≤ 0 → rest allowance s (standing h place out 0 0) ≡ pumpOf h s place out allowance
-  unfolding pumpOf
-  pump-runs z = sym (ap (λ (n : ℕ). pumpBy n h s place out allowance) (sym e) ∙ by-none number h s place out allowance z)
+  pub pump-refuses : 0 < number → leaves (record { hub = h; answer = pumpAnswer.Refused number place 0 0 }) out Unmet ≡ call h s place out allowance
+  pump-refuses p = sym (call-by ∙ by-number number h s place out allowance p)
+
+  pub pump-runs : number ≤ 0 → rest allowance s (standing h place out 0 0) Unmet ≡ call h s place out allowance
+  pump-runs z = sym (call-by ∙ by-none number h s place out allowance z)

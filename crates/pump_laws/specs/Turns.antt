@@ -1,12 +1,13 @@
 -- What a turn of the pump's loop gathers, decides and commits is the law book's step. One law for each stage, over plain variables: the marks of a taken
--- record, what is taken, what the filters make of it; and the step put together, for an event that is dropped and for one
--- that is kept.
+-- record, what is taken, what the filters make of it, what it meets; and the step put together, for an event that is dropped
+-- and for one that is kept.
 use Prim.Native.Nat.{ℕ, _+_, _-_, _*_, _%_}
 use mathlib.Core.Path.{_≡_, refl, sym, _∙_, ap}
 use mathlib.Core.Bool.{Bool, true, false, cond}
 use mathlib.Core.List.{List}
 use lib.ListN.{getD}
 use native.Mathlib.Nat.{add-zero}
+use Rattle.numbers.specs.declared.Tilt.{Tilt}
 use Rattle.rules.specs.declared.Hub.{Hub}
 use Rattle.rules.specs.declared.Event.{Event}
 use Rattle.rules.specs.declared.RawRecord.{RawRecord}
@@ -19,6 +20,7 @@ use Rattle.rules.specs.Setters.{withMarks, withState, withFlags, withQueue}
 use Rattle.rules.specs.Hub.{frontOf, pressedAt, pastSlot, pastElement, pastButton}
 use Rattle.rules.specs.Step.{nextRecordOf, takenOf, recordGives, markedOf, connectedAfter, renamedAfter, marksCleared, headAfter, pushedOf, filteredIn, filteredHub, stepEvent, stepHub, updatedOf}
 use Rattle.rules.specs.Pump.{Progress, stepped, steppedBy, placeAfter, outAfter}
+use Rattle.rules.specs.Tilt.{metIn, stepMet, latest}
 use Rattle.gather.specs.declared.Found.{Found}
 use Rattle.gather.specs.EventPlaces.{foundAt}
 use Rattle.turn.specs.Turn.{takenBy}
@@ -81,6 +83,17 @@ turned h l {m} {u} {d} {f} {z} em ed ef ez eu =
           ∙ ap (λ (x : Filtered). x .gives .event)
           (ef ∙ ap (λ (x : Hub). filteredIn x (d .event)) em ∙ ap (λ (x : Dispatched). filteredIn (markedOf h (l .raw)) (x .event)) ed);
     }
+
+-- what a turn's event meets
+pub met :
+    (h : Hub) (l : NextRecord) (before : Tilt) {m : Hub} {d : Dispatched} {tilt : Tilt} →
+    m ≡ markedOf h (l .raw) →
+    d ≡ takenOf h l →
+    tilt ≡ latest (metIn m (d .event)) before →
+    tilt ≡ latest (stepMet h l) before
+unfolding stepMet
+met h l before {m} {d} em ed et =
+    et ∙ ap (λ (x : Hub). latest (metIn x (d .event)) before) em ∙ ap (λ (x : Dispatched). latest (metIn (markedOf h (l .raw)) (x .event)) before) ed
 
 same-filters : (h : Hub) (r : RawRecord) (d : Dispatched) → filteredHub (markedOf h r) d .filters ≡ h .filters
 unfolding filteredHub pushedOf markedOf

@@ -79,6 +79,14 @@ waiting = 23
 abbrev pub dump : ℕ
 dump = 24
 
+-- ---- 40, 41: the pump with its report, the deadzone calculation with which of the three it was (W-205)
+
+abbrev pub report : ℕ
+report = 40
+
+abbrev pub pair : ℕ
+pair = 41
+
 -- ---- 42: since when a button is held (W-206)
 
 abbrev pub since : ℕ

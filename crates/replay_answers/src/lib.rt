@@ -1,5 +1,7 @@
 // What the operations of the oracle's scenario form (`oracle/README.md`) answer. The lines that say so are `replay_lines`'.
 use hub::Head;
+use numbers::Tilt;
+use numbers::Tilted;
 use rules::Answer;
 use rules::AxisAnswer;
 use rules::ButtonAnswer;
@@ -27,15 +29,17 @@ pub enum Asked {
     Waiting(u8),
     Counter(u64),
     Since(ButtonAnswer),
+    Pair(Tilted),
     Nothing,
 }
 
-// Of one that changes it.
+// Of one that changes it; `Reported` of a pump that tells its report too.
 pub enum Changed {
     Begun(Answer),
     Registered(RegisterAnswer),
     Renamed(Answer),
     Pumped(PumpAnswer),
+    Reported(PumpAnswer, Tilt),
     Updated(Answer),
     Inserted(Answer),
     Counter(u64),

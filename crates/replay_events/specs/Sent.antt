@@ -1,16 +1,20 @@
--- What an operation that sends events or counts answers, the hub after it and every byte of the out buffer, by its number and its payload: pump, update,
--- insert, inc and reset counter of the table of `oracle/README.md`. Any other number, and a pump's payload that is too short, is `Nothing` and leaves both.
--- Definitions only.
+-- What an operation that sends events or counts answers, the hub after it and every byte of the out buffer, by its number and its payload: pump, pump with its
+-- report, update, insert, inc and reset counter of the table of `oracle/README.md`. Any other number, and a pump's payload that is too short, is `Nothing` and
+-- leaves both. Definitions only.
 use Prim.Native.Nat.{ℕ, min}
 use mathlib.Core.Bool.{Bool, cond, _||_}
 use mathlib.Core.List.{List, _++_}
 use lib.ListN.{length, take, drop}
 use lib.Dec.{eqb, ltb}
+use Rattle.numbers.specs.declared.Tilt.{Tilt}
 use Rattle.rules.specs.declared.Hub.{Hub}
 use Rattle.rules.specs.declared.Answered.{Answered}
+use Rattle.rules.specs.declared.PumpAnswer.{PumpAnswer}
 use Rattle.rules.specs.Forms.{fieldOf}
 use Rattle.rules.specs.Calls.{updateOf, insertOf, incOf, resetOf}
 use Rattle.rules.specs.Pump.{Run, pumpOf}
+use Rattle.rules.specs.Tilt.{pumpTilt}
+use Rattle.replay_answers.specs.declared.Changed.{Changed}
 use Rattle.replay_answers.specs.declared.Changed.the-variants as changed
 use Rattle.replay_answers.specs.Opcodes as opcodes
 use Rattle.replay_answers.specs.Told.{ToldHub, toldOf}
@@ -23,21 +27,29 @@ pub record Sent : Type 0 where
 abbrev pub sent : List ℕ → ToldHub → Sent
 sent out told = record { told = told; out = out }
 
--- ---- 4, pump: place 4, out size 4, allowance 2, the batch
+-- ---- 4 and 40, pump: place 4, out size 4, allowance 2, the batch
+
+abbrev pub pumps : ℕ → Bool
+pumps opcode = eqb opcode opcodes.pump || eqb opcode opcodes.report
+
+-- 40 reports: beside each answer it tells the tilt
+abbrev pub saidOf : Bool → PumpAnswer → Tilt → Changed
+saidOf reports a t = cond reports (changed.Reported a t) (changed.Pumped a)
 
 -- the run's bytes, and the rest of the buffer as it was
-abbrev pub pumped : List ℕ → Run → Sent
-pumped rest r = sent (r .out ++ rest) (toldOf (r .pumped .hub) (changed.Pumped (r .pumped .answer)))
+abbrev pub pumped : Bool → List ℕ → Run → Tilt → Sent
+pumped reports rest r t = sent (r .out ++ rest) (toldOf (r .pumped .hub) (saidOf reports (r .pumped .answer) t))
 
 -- a size over the buffer's is the buffer's
 abbrev pub sizeOf : List ℕ → List ℕ → ℕ
 sizeOf payload out = min (fieldOf payload 4 4) (length out)
 
-unfoldable pub pumpedOf : Hub → List ℕ → List ℕ → Sent
-pumpedOf h payload out =
+unfoldable pub pumpedOf : Hub → Bool → List ℕ → List ℕ → Sent
+pumpedOf h reports payload out =
     cond (ltb (length payload) 10) (sent out (toldOf h changed.Nothing))
-    (pumped (drop (sizeOf payload out) out)
-    (pumpOf h (drop 10 payload) (fieldOf payload 0 4) (take (sizeOf payload out) out) (fieldOf payload 8 2)))
+    (pumped reports (drop (sizeOf payload out) out)
+    (pumpOf h (drop 10 payload) (fieldOf payload 0 4) (take (sizeOf payload out) out) (fieldOf payload 8 2))
+    (pumpTilt h (drop 10 payload) (fieldOf payload 0 4) (take (sizeOf payload out) out) (fieldOf payload 8 2)))
 
 -- ---- 5, 6, update and insert: the event
 
@@ -61,11 +73,11 @@ countedOf h opcode =
 
 unfoldable pub sends : ℕ → Bool
 sends opcode =
-    eqb opcode opcodes.pump
+    pumps opcode
     || (eqb opcode opcodes.update || (eqb opcode opcodes.insert || (eqb opcode opcodes.inc || eqb opcode opcodes.resetCounter)))
 
 unfoldable pub sentOf : Hub → ℕ → List ℕ → List ℕ → Sent
 sentOf h opcode payload out =
-    cond (eqb opcode opcodes.pump) (pumpedOf h payload out)
+    cond (pumps opcode) (pumpedOf h (eqb opcode opcodes.report) payload out)
     (cond (eqb opcode opcodes.update) (sent out (updated (updateOf h payload)))
     (cond (eqb opcode opcodes.insert) (sent out (inserted (insertOf h payload))) (sent out (countedOf h opcode))))

@@ -1,7 +1,7 @@
-// The operations of the oracle's scenario form (`oracle/README.md`) that send events or count, played on a hub that is lent: pump, update, insert, and the
-// counter. The head goes in and comes back by value, the arrays are changed in place. Proved: answer, hub and every byte of the out buffer are what the
-// operation's row of the table says (specs/Sent.antt), at the hub that head and arrays stand for, for every opcode and payload. By the calls' own contracts: a
-// function here only picks the call and reads its numbers off the payload.
+// The operations of the oracle's scenario form (`oracle/README.md`) that send events or count, played on a hub that is lent: pump, with its report or without,
+// update, insert, and the counter. The head goes in and comes back by value, the arrays are changed in place. Proved: answer, hub and every byte of the out
+// buffer are what the operation's row of the table says (specs/Sent.antt), at the hub that head and arrays stand for, for every opcode and payload. By the
+// calls' own contracts: a function here only picks the call and reads its numbers off the payload.
 ghost use mathlib.Core.Path.{_≡_};
 ghost use mathlib.Core.Bool.{Bool};
 ghost use mathlib.Core.List.{List};
@@ -9,15 +9,17 @@ ghost use Prim.Native.Nat.{ℕ};
 ghost use Rattle.hub.specs.Lent.{Listed, Columns, listed, columns, hubOf};
 ghost use Rattle.rules.specs.Calls.{updateOf, insertOf};
 ghost use Rattle.replay_answers.specs.Told.{told};
-ghost use Rattle.replay_events.specs.Sent.{sent, pumpedOf, updated, inserted, countedOf, sends, sentOf};
+ghost use Rattle.replay_events.specs.Sent.{sent, saidOf, pumps, pumpedOf, updated, inserted, countedOf, sends, sentOf};
 use columns::Marks;
 use columns::QueueBytes;
 use columns::QueueCodes;
 use columns::Times;
 use columns::Values;
 use hub::Head;
+use numbers::Tilt;
 use replay_answers::Changed;
 use replay_answers::Told;
+use rules::PumpAnswer;
 
 // the opcodes, in the order of `oracle/README.md`
 const PUMP: u8 = 4;
@@ -30,12 +32,33 @@ const INC: u8 = 8;
 
 const RESET_COUNTER: u8 = 10;
 
+const REPORT: u8 = 40;
+
 // a pump's payload: place 4, out size 4, allowance 2, the batch
 const OUT_SIZE_AT: usize = 4;
 
 const ALLOWANCE_AT: usize = 8;
 
 const BATCH_AT: usize = 10;
+
+// ---- pump, with its report or without
+
+// Whether an opcode is one of the two.
+fn pumps(opcode: u8) -> bool
+    ensures { λ r. ⌜ r ≡ pumps opcode ⌝ }
+{
+    choices::either(opcode == PUMP, opcode == REPORT)
+}
+
+// What a pump answered, with its report where the operation tells it: refusals too.
+fn said(reports: bool, answer: PumpAnswer, tilt: Tilt) -> Changed
+    ensures { λ r. ⌜ r ≡ saidOf reports answer tilt ⌝ }
+{
+    if reports {
+        return Changed::Reported(answer, tilt);
+    }
+    Changed::Pumped(answer)
+}
 
 // An out size over the longest buffer is refused whatever it is, so the longest one stands for it.
 fn pump<'s>(
@@ -51,6 +74,7 @@ fn pump<'s>(
     marks: &mut Marks,
     queuebytes: &mut QueueBytes,
     queuecodes: &mut QueueCodes,
+    reports: bool,
     payload: &[u8],
     out: &mut [u8],
 ) -> Told
@@ -59,7 +83,7 @@ fn pump<'s>(
         (now (queuebytes .exit)) (now (queuecodes .exit))))
         ≡ pumpedOf (hubOf head (listed (now (codes .entry)) (now (kinds .entry)) (now (names .entry)) (now (renames .entry)))
         (columns (now (hasbutton .entry)) (now (hasaxis .entry)) (now (values .entry)) (now (times .entry)) (now (marks .entry))
-        (now (queuebytes .entry)) (now (queuecodes .entry)))) (now (payload .entry)) (now (out .entry)) ⌝ }
+        (now (queuebytes .entry)) (now (queuecodes .entry)))) reports (now (payload .entry)) (now (out .entry)) ⌝ }
 {
     if payload.len() < BATCH_AT {
         return replay_answers::tell(head, Changed::Nothing);
@@ -86,8 +110,11 @@ fn pump<'s>(
     );
     let h = r.head;
     let answer = r.answer;
-    replay_answers::tell(h, Changed::Pumped(answer))
+    let tilt = r.tilt;
+    replay_answers::tell(h, said(reports, answer, tilt))
 }
+
+// ---- update, insert, and the counter
 
 fn update(
     head: Head,
@@ -153,7 +180,7 @@ pub fn sends(opcode: u8) -> bool
     ensures { λ r. ⌜ r ≡ sends opcode ⌝ }
 {
     choices::either(
-        opcode == PUMP,
+        pumps(opcode),
         choices::either(
             opcode == UPDATE,
             choices::either(
@@ -189,7 +216,7 @@ pub fn send<'s>(
         (columns (now (hasbutton .entry)) (now (hasaxis .entry)) (now (values .entry)) (now (times .entry)) (now (marks .entry))
         (now (queuebytes .entry)) (now (queuecodes .entry)))) opcode (now (payload .entry)) (now (out .entry)) ⌝ }
 {
-    if opcode == PUMP {
+    if pumps(opcode) {
         return pump(
             head,
             codes,
@@ -203,6 +230,7 @@ pub fn send<'s>(
             marks,
             queuebytes,
             queuecodes,
+            opcode == REPORT,
             payload,
             out,
         );

@@ -4,12 +4,14 @@ use mathlib.Core.List.{[], _∷_}
 use lib.ListN.{take, replicate}
 use lib.Ieee as Ieee
 use lib.Ieee.{binary32}
+use Rattle.numbers.specs.declared.Tilted.{Tilted}
+use Rattle.numbers.specs.declared.Tilt.the-variants.{Between, Full}
 use Rattle.rules.specs.declared.ValueAnswer.the-variants as valueAnswer
 use Rattle.rules.specs.declared.NumberAnswer.the-variants as numberAnswer
 use Rattle.rules.specs.declared.PumpAnswer.the-variants as pumpAnswer
 use Rattle.lines.specs.Appending.{laidOver}
 use Rattle.lines.specs.Text.{numberText, hexText, decimalOf, hexOf, placesOf, heldOf, linesOf}
-use Rattle.lines.specs.Letters.{A, D, E, F, L, M, N, R, S, U, Vee, space, newline}
+use Rattle.lines.specs.Letters.{A, B, D, E, F, I, L, M, N, P, R, S, T, U, Vee, W, space, newline}
 use Rattle.replay_answers.specs.declared.Asked.the-variants as asked
 use Rattle.replay_answers.specs.declared.Changed.the-variants as changed
 use Rattle.replay_words.specs.Pieces.{Written, written, laid, laidAll}
@@ -38,3 +40,23 @@ pump-line :
     ≡ R ∷ E ∷ F ∷ U ∷ S ∷ E ∷ D ∷ space ∷ 56 ∷ space ∷ 52 ∷ 50 ∷ space ∷ 48 ∷ space ∷ 50 ∷ newline ∷ []
 unfolding empty callPieces laidAll laid laidOver numberText decimalOf placesOf heldOf linesOf
 pump-line = refl
+
+-- the same refusal of operation 40: its report stands behind it
+report-line :
+    take 27 (laidAll (callPieces [] (changed.Reported (pumpAnswer.Refused 8 42 0 2) Full)) empty .bytes)
+    ≡ R ∷ E ∷ F ∷ U ∷ S ∷ E ∷ D ∷ space ∷ 56 ∷ space ∷ 52 ∷ 50 ∷ space ∷ 48 ∷ space ∷ 50 ∷ newline
+    ∷ T ∷ I ∷ L ∷ T ∷ space ∷ F ∷ U ∷ L ∷ L ∷ newline ∷ []
+unfolding empty callPieces laidAll laid laidOver numberText decimalOf placesOf heldOf linesOf
+report-line = refl
+
+-- what (0.75, 0) is at a threshold of 0.5: (0.5, 0), between
+half : Tilted
+half = record { pair = record { x = Ieee.ofBits binary32 0x3f000000; y = Ieee.ofBits binary32 0 }; tilt = Between }
+
+-- "PAIR 3f000000 00000000 BETWEEN"
+pair-line :
+    take 31 (laidAll (queryPieces (asked.Pair half)) empty .bytes)
+    ≡ P ∷ A ∷ I ∷ R ∷ space ∷ 51 ∷ 102 ∷ 48 ∷ 48 ∷ 48 ∷ 48 ∷ 48 ∷ 48 ∷ space ∷ 48 ∷ 48 ∷ 48 ∷ 48 ∷ 48 ∷ 48 ∷ 48 ∷ 48 ∷ space
+    ∷ B ∷ E ∷ T ∷ W ∷ E ∷ E ∷ N ∷ newline ∷ []
+unfolding empty half queryPieces laidAll laid laidOver hexText hexOf Ieee.ofBits Ieee.toBits
+pair-line = refl

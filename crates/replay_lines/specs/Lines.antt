@@ -1,7 +1,9 @@
 -- The lines that say what an operation answered, in the order of the table of `oracle/README.md`. Definitions only.
 use Prim.Native.Nat.{ℕ}
-use mathlib.Core.List.{List, [], _∷_}
+use mathlib.Core.List.{List, [], _∷_, _++_}
 use lib.Ieee.{binary32, toBits}
+use Rattle.numbers.specs.declared.Tilt.{Tilt}
+use Rattle.numbers.specs.declared.Tilted.{Tilted}
 use Rattle.rules.specs.declared.Answer.{Answer}
 use Rattle.rules.specs.declared.Answer.the-variants as answer
 use Rattle.rules.specs.declared.RegisterAnswer.{RegisterAnswer}
@@ -30,7 +32,7 @@ use Rattle.replay_answers.specs.declared.Asked.the-variants as asked
 use Rattle.replay_answers.specs.declared.Changed.{Changed}
 use Rattle.replay_answers.specs.declared.Changed.the-variants as changed
 use Rattle.replay_words.specs.Pieces.{Piece, word, number, hex, labelled, line, lines}
-use Rattle.replay_words.specs.Words.{buttonPieces, axisPieces}
+use Rattle.replay_words.specs.Words.{buttonPieces, axisPieces, tiltPieces}
 
 -- ---- what more than one operation answers
 
@@ -120,6 +122,18 @@ code (numberAnswer.Number n) = word (C ∷ O ∷ D ∷ E ∷ space ∷ []) ∷ h
 code numberAnswer.Absent = absent
 code (numberAnswer.Refused n) = refused n
 
+-- ---- 40: pump, its lines as in 4, then its report, "one line `TILT NONE`, `TILT INSIDE`, `TILT BETWEEN` or `TILT FULL`, after every answer"
+
+abbrev pub reported : List ℕ → PumpAnswer → Tilt → List Piece
+reported out a t = pumped out a ++ (word (T ∷ I ∷ L ∷ T ∷ space ∷ []) ∷ tiltPieces t)
+
+-- ---- 41: the deadzone calculation, its pair and which of the three it was
+
+abbrev pub pair : Tilted → List Piece
+pair t =
+    word (P ∷ A ∷ I ∷ R ∷ space ∷ [])
+    ∷ hex (toBits binary32 (t .pair .x)) space ∷ hex (toBits binary32 (t .pair .y)) space ∷ tiltPieces (t .tilt)
+
 -- ---- 42: since when a button is held
 
 abbrev pub since : ButtonAnswer → List Piece
@@ -143,6 +157,7 @@ queryPieces (asked.Threshold a) = value (T ∷ H ∷ R ∷ E ∷ S ∷ H ∷ O �
 queryPieces (asked.Stands a) = truth (S ∷ T ∷ A ∷ N ∷ D ∷ S ∷ space ∷ []) a
 queryPieces (asked.Waiting n) = labelled (W ∷ A ∷ I ∷ T ∷ I ∷ N ∷ G ∷ space ∷ []) n newline ∷ []
 queryPieces (asked.Since a) = since a
+queryPieces (asked.Pair t) = pair t
 queryPieces asked.Nothing = noOperation
 
 -- that changes it; a pump's events stand in the out buffer
@@ -151,6 +166,7 @@ callPieces out (changed.Begun a) = done (H ∷ U ∷ B ∷ newline ∷ []) a
 callPieces out (changed.Registered a) = registered a
 callPieces out (changed.Renamed a) = done (R ∷ E ∷ N ∷ A ∷ M ∷ E ∷ D ∷ newline ∷ []) a
 callPieces out (changed.Pumped a) = pumped out a
+callPieces out (changed.Reported a t) = reported out a t
 callPieces out (changed.Updated a) = done (U ∷ P ∷ D ∷ A ∷ T ∷ E ∷ D ∷ newline ∷ []) a
 callPieces out (changed.Inserted a) = done (I ∷ N ∷ S ∷ E ∷ R ∷ T ∷ E ∷ D ∷ newline ∷ []) a
 callPieces out (changed.Counter n) = counted n

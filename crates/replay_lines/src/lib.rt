@@ -2,6 +2,8 @@
 // place; it prints the pieces of its definition in `specs/Lines.antt`, each where the buffer has room for it, for every answer and every buffer.
 use lines::NEWLINE;
 use lines::SPACE;
+use numbers::Tilt;
+use numbers::Tilted;
 use replay_answers::Asked;
 use replay_answers::Changed;
 use rules::Answer;
@@ -123,6 +125,15 @@ fn pumped(text: &mut [u8], at: usize, out: &[u8], answer: PumpAnswer) -> usize
     }
 }
 
+// A pump's lines, then its report, whatever the answer.
+fn reported(text: &mut [u8], at: usize, out: &[u8], answer: PumpAnswer, tilt: Tilt) -> usize
+    ensures { λ r. ⌜ written (now (text .exit)) r ≡ laidAll (law.reported (now (out .entry)) answer tilt) (written (now (text .entry)) at) ⌝ }
+{
+    let last = pumped(text, at, out, answer);
+    let next = lines::append(text, last, b"TILT ");
+    replay_words::tilt_word(text, next, tilt)
+}
+
 fn repeated(text: &mut [u8], at: usize, answer: RepeatAnswer) -> usize
     ensures { λ r. ⌜ written (now (text .exit)) r ≡ laidAll (law.repeated answer) (written (now (text .entry)) at) ⌝ }
 {
@@ -217,6 +228,20 @@ fn code(text: &mut [u8], at: usize, answer: NumberAnswer) -> usize
     }
 }
 
+// ---- the deadzone calculation
+
+// The pair's bits, and which of the three it was.
+fn pair(text: &mut [u8], at: usize, tilted: Tilted) -> usize
+    ensures { λ r. ⌜ written (now (text .exit)) r ≡ laidAll (law.pair tilted) (written (now (text .entry)) at) ⌝ }
+{
+    let p = tilted.pair;
+    let x = lines::append(text, at, b"PAIR ");
+    let y = lines::hex(text, x, binary32::bits_of(p.x), SPACE);
+    let word = lines::hex(text, y, binary32::bits_of(p.y), SPACE);
+    let tilt = tilted.tilt;
+    replay_words::tilt_word(text, word, tilt)
+}
+
 // ---- the lines of any operation
 
 // The line of an operation that leaves the hub as it is.
@@ -236,6 +261,7 @@ pub fn query_line(text: &mut [u8], at: usize, answer: Asked) -> usize
         Asked::Waiting(n) => lines::labelled(text, at, b"WAITING ", n as u64, NEWLINE),
         Asked::Counter(n) => counted(text, at, n),
         Asked::Since(a) => since(text, at, a),
+        Asked::Pair(t) => pair(text, at, t),
         Asked::Nothing => none(text, at),
     }
 }
@@ -249,6 +275,7 @@ pub fn call_lines(text: &mut [u8], at: usize, out: &[u8], answer: Changed) -> us
         Changed::Registered(a) => registered(text, at, a),
         Changed::Renamed(a) => done(text, at, b"RENAMED\n", a),
         Changed::Pumped(a) => pumped(text, at, out, a),
+        Changed::Reported(a, t) => reported(text, at, out, a, t),
         Changed::Updated(a) => done(text, at, b"UPDATED\n", a),
         Changed::Inserted(a) => done(text, at, b"INSERTED\n", a),
         Changed::Counter(n) => counted(text, at, n),

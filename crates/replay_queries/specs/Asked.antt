@@ -1,10 +1,12 @@
--- What an operation that leaves the hub as it is answers, by its number and its payload: Repeat, the counter and the queries of the table of
--- `oracle/README.md`. `Nothing` for any other number, and for a payload of another length. Definitions only.
+-- What an operation that leaves the hub as it is answers, by its number and its payload: Repeat, the counter, the queries and the deadzone calculation of
+-- the table of `oracle/README.md`. `Nothing` for any other number, and for a payload of another length. Definitions only.
 use Prim.Native.Nat.{ℕ}
-use mathlib.Core.Bool.{cond, _&&_}
+use mathlib.Core.Bool.{cond, _&&_, _||_}
 use mathlib.Core.List.{List}
 use lib.ListN.{length, getD}
 use lib.Dec.{eqb, leb}
+use lib.Ieee.{Float, binary32, ofBits, isNan}
+use Rattle.numbers.specs.Tilt.{tiltedOf}
 use Rattle.rules.specs.declared.Hub.{Hub}
 use Rattle.rules.specs.Forms.{fieldOf}
 use Rattle.rules.specs.Repeat.{repeatOf}
@@ -62,6 +64,18 @@ byName h opcode p name =
     (cond (eqb opcode opcodes.axisByName) (asked.Axis (axisByName h p name))
     (cond (eqb opcode opcodes.codeOfName) (asked.Code (codeByName h p name)) asked.Nothing))))
 
+-- ---- 41: the deadzone calculation and which of the three it was; x 4, y 4, threshold 4 (float bits, no NaN)
+
+unfoldable pub calculated : Float → Float → Float → Asked
+calculated x y threshold =
+    cond (isNan x || (isNan y || isNan threshold)) asked.Nothing (asked.Pair (tiltedOf x y threshold))
+
+abbrev pub floatAt : List ℕ → ℕ → Float
+floatAt payload at = ofBits binary32 (fieldOf payload at 4)
+
+unfoldable pub pair : List ℕ → Asked
+pair payload = sized payload 12 (calculated (floatAt payload 0) (floatAt payload 4) (floatAt payload 8))
+
 -- ---- 42: since when a button is held; pad 1, code 4
 
 unfoldable pub since : Hub → List ℕ → Asked
@@ -79,4 +93,5 @@ unfoldable pub askedOf : Hub → ℕ → List ℕ → Asked
 askedOf h opcode payload =
     cond (eqb opcode opcodes.repeat) (repeated h payload)
     (cond (eqb opcode opcodes.since) (since h payload)
-    (cond (leb opcodes.pressedByCode opcode && leb opcode opcodes.threshold) (queried h opcode payload) (ofHead h opcode payload)))
+    (cond (eqb opcode opcodes.pair) (pair payload)
+    (cond (leb opcodes.pressedByCode opcode && leb opcode opcodes.threshold) (queried h opcode payload) (ofHead h opcode payload))))

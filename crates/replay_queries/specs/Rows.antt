@@ -1,15 +1,18 @@
 -- The table of `oracle/README.md` by its numbers, row by row: what `askedOf` answers where the payload is as long as the row says.
 use Prim.Native.Nat.{ℕ}
 use mathlib.Core.Path.{_≡_, refl}
+use mathlib.Core.Bool.{false}
 use mathlib.Core.List.{List}
 use lib.ListN.{length, getD}
+use lib.Ieee.{isNan}
+use Rattle.numbers.specs.Tilt.{tiltedOf}
 use Rattle.rules.specs.declared.Hub.{Hub}
 use Rattle.rules.specs.Forms.{fieldOf}
 use Rattle.rules.specs.Repeat.{repeatOf}
 use Rattle.rules.specs.Queries.{pressedByCode, pressedByName, connectedOf, valueByCode, valueByName, thresholdByCode}
 use Rattle.rules.specs.Queries.{buttonByCode, buttonByName, axisByCode, axisByName, nameByCode, codeByName}
 use Rattle.replay_answers.specs.declared.Asked.the-variants as asked
-use Rattle.replay_queries.specs.Asked.{repeated, stands, ofHead, stateByCode, byCode, byName, since, queried, askedOf}
+use Rattle.replay_queries.specs.Asked.{repeated, stands, ofHead, stateByCode, byCode, byName, calculated, floatAt, pair, since, queried, askedOf}
 
 module _ (h : Hub) (s : List ℕ) where
   pub row-7 : length s ≡ 24 → askedOf h 7 s ≡ asked.Repeat (repeatOf h (fieldOf s 0 8) (fieldOf s 8 8) (fieldOf s 16 8))
@@ -79,3 +82,10 @@ module _ (h : Hub) (s : List ℕ) where
     pub row-20 : askedOf h 20 s ≡ asked.Code (codeByName h (getD s 0 0) (getD s 1 0))
     unfolding askedOf queried byName
     row-20 = rw long
+
+  -- x 4, y 4, threshold 4: three numbers
+  module _ (long : length s ≡ 12) where
+    pub row-41 : isNan (floatAt s 0) ≡ false → isNan (floatAt s 4) ≡ false → isNan (floatAt s 8) ≡ false
+        → askedOf h 41 s ≡ asked.Pair (tiltedOf (floatAt s 0) (floatAt s 4) (floatAt s 8))
+    unfolding askedOf pair calculated
+    row-41 x y threshold = rw (long, x, y, threshold)

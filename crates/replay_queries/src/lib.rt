@@ -1,13 +1,14 @@
 // The operations of the oracle's scenario form (`oracle/README.md`) that leave the hub as it is, on a hub that is lent: the queries and Repeat. Each answers what
 // its row of the table says (specs/Asked.antt), for every opcode and payload, by the call's own contract: a function here picks the call and reads the payload.
 mod held;
+mod tilt;
+mod timed;
 
 ghost use mathlib.Core.Path.{_≡_};
-ghost use mathlib.Core.Bool.{Bool};
 ghost use mathlib.Core.List.{List};
 ghost use Prim.Native.Nat.{ℕ};
 ghost use Rattle.hub.specs.Lent.{Listed, Columns, listed, columns, hubOf};
-ghost use Rattle.replay_queries.specs.Asked.{repeated, stands, ofHead, stateByCode, byCode, byName, askedOf};
+ghost use Rattle.replay_queries.specs.Asked.{stands, ofHead, stateByCode, byCode, byName, askedOf};
 use columns::Marks;
 use columns::Times;
 use columns::Values;
@@ -45,14 +46,14 @@ const STANDS: u8 = 22;
 
 const WAITING: u8 = 23;
 
+const PAIR: u8 = 41;
+
 const SINCE: u8 = 42;
 
-// how long the payloads are: pad 1 and code 4, pad 1 and name 1, three times, pad 1
+// how long the payloads are: pad 1 and code 4, pad 1 and name 1, pad 1
 const CODE_PAYLOAD: usize = 5;
 
 const NAME_PAYLOAD: usize = 2;
-
-const REPEAT_PAYLOAD: usize = 24;
 
 const PAD_PAYLOAD: usize = 1;
 
@@ -256,7 +257,7 @@ fn by_name<'s>(
     Asked::Nothing
 }
 
-// ---- the head, and Repeat
+// ---- the head
 
 // Whether a pad is connected.
 fn stands(head: Head, payload: &[u8]) -> Asked
@@ -284,40 +285,6 @@ fn of_head(head: Head, opcode: u8, payload: &[u8]) -> Asked
     Asked::Nothing
 }
 
-fn repeat<'s>(
-    head: Head,
-    codes: &[u32; 208],
-    names: &'s [u8; 208],
-    renames: &'s [u8; 208],
-    hasbutton: &[bool; 208],
-    values: &Values,
-    times: &Times,
-    marks: &Marks,
-    payload: &[u8],
-) -> Asked
-    ensures { λ r. ⌜ ((kinds queuebytes queuecodes : List ℕ) (hasaxis : List Bool) →
-        r ≡ repeated (hubOf head (listed (now (codes .entry)) kinds (now (names .entry)) (now (renames .entry)))
-        (columns (now (hasbutton .entry)) hasaxis (now (values .entry)) (now (times .entry)) (now (marks .entry)) queuebytes queuecodes))
-        (now (payload .entry))) ⌝ }
-{
-    if payload.len() != REPEAT_PAYLOAD {
-        return Asked::Nothing;
-    }
-    Asked::Repeat(clock::repeat(
-        head,
-        codes,
-        names,
-        renames,
-        hasbutton,
-        values,
-        times,
-        marks,
-        wire::read8(payload, 0),
-        wire::read8(payload, 8),
-        wire::read8(payload, 16),
-    ))
-}
-
 // ---- any operation that leaves the hub as it is
 
 // The payload's length says whether a query goes by a code or by a name.
@@ -341,7 +308,7 @@ pub fn ask<'s>(
         opcode (now (payload .entry))) ⌝ }
 {
     if opcode == REPEAT {
-        return repeat(
+        return timed::repeat(
             head,
             codes,
             names,
@@ -355,6 +322,9 @@ pub fn ask<'s>(
     }
     if opcode == SINCE {
         return held::since(head, codes, hasbutton, values, times, marks, payload);
+    }
+    if opcode == PAIR {
+        return tilt::pair(payload);
     }
     if opcode < PRESSED_BY_CODE {
         return of_head(head, opcode, payload);

@@ -42,6 +42,7 @@ begunOf (changed.Begun (answer.Refused number)) = false
 begunOf (changed.Registered a) = false
 begunOf (changed.Renamed a) = false
 begunOf (changed.Pumped a) = false
+begunOf (changed.Reported a t) = false
 begunOf (changed.Updated a) = false
 begunOf (changed.Inserted a) = false
 begunOf (changed.Counter n) = false

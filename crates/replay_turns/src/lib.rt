@@ -123,6 +123,7 @@ fn begun(answer: Changed) -> bool
         Changed::Registered(_) => false,
         Changed::Renamed(_) => false,
         Changed::Pumped(_) => false,
+        Changed::Reported(_, _) => false,
         Changed::Updated(_) => false,
         Changed::Inserted(_) => false,
         Changed::Counter(_) => false,

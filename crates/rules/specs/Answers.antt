@@ -4,6 +4,8 @@ use Prim.Native.Nat.{ℕ}
 use mathlib.Core.List.{List, [], _∷_}
 use mathlib.Core.Bool.{Bool, cond}
 use lib.Ieee.{Float, binary32, toBits}
+use Rattle.numbers.specs.declared.Tilt.{Tilt}
+use Rattle.numbers.specs.declared.Tilt.the-variants.{Unmet, Inside, Between, Full}
 use Rattle.rules.specs.declared.ButtonData.{ButtonData}
 use Rattle.rules.specs.declared.AxisData.{AxisData}
 use Rattle.rules.specs.declared.Answer.{Answer}
@@ -55,6 +57,13 @@ pumpSays (pumpAnswer.Drained place events steps) = served (drained ∷ place ∷
 pumpSays (pumpAnswer.Full place events steps) = served (full ∷ place ∷ events ∷ steps ∷ [])
 pumpSays (pumpAnswer.Paused place events steps) = served (paused ∷ place ∷ events ∷ steps ∷ [])
 pumpSays (pumpAnswer.Refused number place events steps) = refused number (place ∷ events ∷ steps ∷ [])
+
+-- 02's W-205: beside each of a pump's answers
+abbrev pub tiltSays : Tilt → ℕ
+tiltSays Unmet = 0
+tiltSays Inside = 1
+tiltSays Between = 2
+tiltSays Full = 3
 
 -- the event's 22 bytes, or none
 abbrev pub repeatSays : RepeatAnswer → Said

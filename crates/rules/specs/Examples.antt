@@ -14,6 +14,7 @@ mod Desk
 mod Hub
 mod Step
 mod Pump
+mod Tilt
 mod Repeat
 mod Calls
 mod Queries

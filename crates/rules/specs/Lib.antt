@@ -11,6 +11,7 @@ pub mod Setters
 pub mod Hub
 pub mod Step
 pub mod Pump
+pub mod Tilt
 pub mod Repeat
 pub mod Calls
 pub mod Queries

@@ -1,10 +1,13 @@
 ghost use mathlib.Core.Path.{_≡_};
 ghost use mathlib.Core.Bool.{true};
-ghost use Rattle.numbers.specs.Constants.{withinOf, deadzoneWithinOf};
+ghost use Rattle.numbers.specs.Constants.{zero32, withinOf, deadzoneWithinOf};
 ghost use Rattle.numbers.specs.Scale.{lowOf, rangeOf, oddOf, plusOdd, turnedOf, axisScaledOf, buttonScaledOf, thresholdOf};
-ghost use Rattle.numbers.specs.Deadzone.{deadzoneOf};
+ghost use Rattle.numbers.specs.Deadzone.{insideOf, normOf, shrunkOf, deadzoneOf};
+ghost use Rattle.numbers.specs.Tilt.{tiltAt, tiltedOf};
 ghost use Rattle.numbers.specs.Jitter.{absOf, jitterOf};
 use numbers::Pair;
+use numbers::Tilt;
+use numbers::Tilted;
 
 // the least of 01's min, max and raw values, and one past the largest
 const LEAST: i32 = -8388608;
@@ -123,23 +126,72 @@ pub fn threshold_of(min: i32, max: i32, deadzone: u32) -> f32
     (deadzone as f32) / range_of(min, max) * 2.0
 }
 
-// gilrs's `apply_deadzone`. A threshold of 0, as triggers have, leaves a stick off its middle as it is: no root is needed.
-pub fn apply_deadzone(x: f32, y: f32, threshold: f32) -> Pair
-    ensures { λ r. ⌜ r ≡ deadzoneOf x y threshold ⌝ }
+// "at or below the threshold"
+fn inside(magnitude: f32, threshold: f32) -> bool
+    ensures { λ r. ⌜ r ≡ insideOf magnitude threshold ⌝ }
 {
-    if threshold == 0.0 {
-        if 0.0 < x * x + y * y {
-            return Pair { x: x, y: y };
-        }
-    }
-    let m = binary32::magnitude(x, y);
-    if m <= threshold {
+    magnitude <= threshold
+}
+
+// (0, 0) inside, else both times norm
+fn shrunk_by(m: f32, threshold: f32, x: f32, y: f32) -> Pair
+    ensures { λ r. ⌜ r ≡ shrunkOf (insideOf m threshold) (normOf m threshold) x y ⌝ }
+{
+    if inside(m, threshold) {
         return Pair { x: 0.0, y: 0.0 };
     }
     let norm = ((m - threshold) / (1.0 - threshold)) / m;
     Pair {
         x: x * norm,
         y: y * norm,
+    }
+}
+
+// A button's value by gilrs's `apply_deadzone`, beside which no partner stands. A threshold of 0, as triggers have, leaves it as it is: no root is needed.
+pub fn shrink_value(x: f32, threshold: f32) -> f32
+    ensures { λ r. ⌜ r ≡ deadzoneOf x zero32 threshold .x ⌝ }
+{
+    if threshold == 0.0 {
+        if 0.0 < x * x + 0.0 * 0.0 {
+            return x;
+        }
+    }
+    let pair = shrunk_by(binary32::magnitude(x, 0.0), threshold, x, 0.0);
+    pair.x
+}
+
+// Which of three a magnitude is: inside the dead zone, at full tilt, or in between.
+fn tilt_by(m: f32, threshold: f32) -> Tilt
+    ensures { λ r. ⌜ r ≡ tiltAt m threshold ⌝ }
+{
+    if !inside(m, threshold) {
+        if m == 1.0 {
+            return Tilt::Full;
+        }
+        return Tilt::Between;
+    }
+    Tilt::Inside
+}
+
+// gilrs's `apply_deadzone`, and which of the three it was. Full tilt needs no root: where the squares reach 1 the magnitude is held to 1, and a threshold from 0 up
+// to below 1 leaves the pair as it was.
+pub fn apply_deadzone(x: f32, y: f32, threshold: f32) -> Tilted
+    ensures { λ r. ⌜ r ≡ tiltedOf x y threshold ⌝ }
+{
+    if 1.0 <= x * x + y * y {
+        if 0.0 <= threshold {
+            if !inside(1.0, threshold) {
+                return Tilted {
+                    pair: Pair { x: x, y: y },
+                    tilt: Tilt::Full,
+                };
+            }
+        }
+    }
+    let m = binary32::magnitude(x, y);
+    Tilted {
+        pair: shrunk_by(m, threshold, x, y),
+        tilt: tilt_by(m, threshold),
     }
 }
 

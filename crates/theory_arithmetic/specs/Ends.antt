@@ -30,6 +30,9 @@ module _ (m : ℕ) (e : ℤ) (p : ℕ) (v : m * up e * one ≡ p * down e) where
   one-at-least : p ≤ one → m * up e * 1 ≤ 1 * down e
   one-at-least h = transfer (m * up e) 1 (down e) 1 p one one one one-pos one-pos v (mul-comm 1 one) (mul-le-mul-right one h)
 
+  at-least-one : 1 * down e ≤ m * up e * 1 → one ≤ p
+  at-least-one h = le-of-mul-le-mul-right (transfer one p one one 1 (m * up e) 1 (down e) (pow-pos 0) (down-pos e) (mul-comm one 1) (sym v) h) one-pos
+
 -- ---- a value in -1..1
 
 pub record Size (x : Float) : Type 0 where
@@ -93,6 +96,16 @@ between-of (fin false m e) s p v h =
       low = not-below (fin false m e) minusOne32 refl refl refl;
       high = not-below one32 (fin false m e) refl refl (le-ltb (1 * down e) (m * up e * 1) (one-at-least m e p (v .1) h));
     }
+
+-- a value of 1 or more
+pub one-or-more : (x : Float) (p : ℕ) → HasValue x false p one → le one32 x ≡ true → one ≤ p
+unfolding le lt eq ofBits
+one-or-more nan p v h = absurd v
+one-or-more (inf s) p v h = absurd v
+one-or-more (fin true m e) p v h = absurd (true≢false (v .0))
+one-or-more (fin false m e) p v h =
+    let A = 1 * down e in
+    let B = m * up e * 1 in at-least-one m e p (v .1) (less-or-level A B (ltb A B) (eqb A B) true (ltb-true A B) (eqb-true A B) h)
 
 -- ---- held to 0..1
 

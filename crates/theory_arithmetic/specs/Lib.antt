@@ -10,6 +10,7 @@ pub mod Magnitude
 pub mod Deadzone
 pub mod Kept
 pub mod Unmoved
+pub mod FullTilt
 pub mod Proper
 pub mod ProperDeadzone
 pub mod Trigger

@@ -36,7 +36,7 @@ bits-at (fin t m e) s p v =
     let n : m * up e * one / down e ≡ p = ap (λ (k : ℕ). k / down e) (v .1) ∙ mul-div-cancel p (down-pos e) in
     rw (n, v .0)
 
-one-value : (x y : Float) (s : Bool) (p : ℕ) → T (fits binary32 x) → T (fits binary32 y) → HasValue x s p one → HasValue y s p one → x ≡ y
+pub one-value : (x y : Float) (s : Bool) (p : ℕ) → T (fits binary32 x) → T (fits binary32 y) → HasValue x s p one → HasValue y s p one → x ≡ y
 one-value x y s p f g v w =
     sym (ofBits-toBits binary32 x f) ∙ ap (ofBits binary32) (bits-at x s p v ∙ sym (bits-at y s p w)) ∙ ofBits-toBits binary32 y g
 
@@ -49,7 +49,7 @@ exact x s p f v =
 
 -- ---- operations that change nothing
 
-one-fits : T (fits binary32 one32)
+pub one-fits : T (fits binary32 one32)
 one-fits = ofBits-fits binary32 0x3f800000
 
 alike : (s : Bool) → unlike s false ≡ s
@@ -78,7 +78,7 @@ module _ (m : Float) (M : ℕ) (f : T (fits binary32 m)) (v : HasValue m false M
   over-one : div binary32 m one32 ≡ m
   over-one = div-units m one32 false false M one v one-is one-pos ∙ exact m false M f v
 
-  over-itself : 0 < M → div binary32 m m ≡ one32
+  pub over-itself : 0 < M → div binary32 m m ≡ one32
   over-itself some =
       div-units m m false false M M v v some ∙ round-same binary32 false M M one one some one-pos (mul-comm M one)
       ∙ exact one32 false one one-fits one-is
@@ -152,13 +152,13 @@ root-above (fin false m e) f h =
     let size : 0 < m * up e = let l = ltb-true (0 * down e) (m * up e * 1) h in let z = mul-one (m * up e) in omega arith in
     positive-above (fin false m e) f (lt→ltb 0 m (first-pos m (up e) size))
 
-clamp-fits : (x : Float) → T (fits binary32 x) → T (fits binary32 (clampOf x zero32 one32))
+pub clamp-fits : (x : Float) → T (fits binary32 x) → T (fits binary32 (clampOf x zero32 one32))
 unfolding clampOf
 clamp-fits x f = cond-fits binary32 (lt x zero32) zero32 _ (ofBits-fits binary32 0) (cond-fits binary32 (lt one32 x) one32 x one-fits f)
 
 -- ---- the law
 
-unshrunk : (inside : Bool) (norm x y : Float) → inside ≡ false → norm ≡ one32 → T (fits binary32 x) → T (fits binary32 y)
+pub unshrunk : (inside : Bool) (norm x y : Float) → inside ≡ false → norm ≡ one32 → T (fits binary32 x) → T (fits binary32 y)
     → record { x = x; y = y } ≡ shrunkOf inside norm x y
 unfolding shrunkOf
 unshrunk inside norm x y out is f g = rw (out, is, times-one x f, times-one y g)

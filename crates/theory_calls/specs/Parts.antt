@@ -64,14 +64,14 @@ pub record Joins (whole first second : Run) (allowance : ℕ) : Type 0 where
 abbrev runFrom : ℕ → List ℕ → Progress → Run
 runFrom left s p = runOf left (verdictOf left s p) s p
 
-same-standing : {h : Hub} {at : ℕ} {out out′ : List ℕ} {events events′ steps steps′ : ℕ} → out ≡ out′ → events ≡ events′ → steps ≡ steps′
+pub same-standing : {h : Hub} {at : ℕ} {out out′ : List ℕ} {events events′ steps steps′ : ℕ} → out ≡ out′ → events ≡ events′ → steps ≡ steps′
     → _≡_ {A = Progress} (record { hub = h; at = at; out = out; events = events; steps = steps })
     (record { hub = h; at = at; out = out′; events = events′; steps = steps′ })
 same-standing a b c = cc
 
 module _ (before : List ℕ) (events steps : ℕ) where
   -- where a pump stands that goes on behind that, and what it leaves
-  abbrev behind : Progress → Progress
+  abbrev pub behind : Progress → Progress
   behind p = record { hub = p .hub; at = p .at; out = before ++ p .out; events = events + p .events; steps = steps + p .steps }
 
   abbrev joined : Run → Run
@@ -88,7 +88,7 @@ module _ (before : List ℕ) (events steps : ℕ) where
   same-end (refusing number) p = refl
 
   module _ (long : length before ≡ eventSize * events) where
-    same-verdict : (left : ℕ) (s : List ℕ) (p : Progress) → verdictOf left s (behind p) ≡ verdictOf left s p
+    pub same-verdict : (left : ℕ) (s : List ℕ) (p : Progress) → verdictOf left s (behind p) ≡ verdictOf left s p
     unfolding verdictOf
     same-verdict left s p =
         let size = length-append before (p .out) in
@@ -108,7 +108,7 @@ module _ (before : List ℕ) (events steps : ℕ) where
     same-out true out n e = same-place out (eventBytes e) n
     same-out false out n e = refl
 
-    same-step : (s : List ℕ) (p : Progress) → stepped s (behind p) ≡ behind (stepped s p)
+    pub same-step : (s : List ℕ) (p : Progress) → stepped s (behind p) ≡ behind (stepped s p)
     unfolding stepped steppedBy
     same-step s p =
         let e = stepEvent (p .hub) (nextRecordOf (p .hub .waiting) s (p .at)) in
@@ -128,7 +128,7 @@ module _ (before : List ℕ) (events steps : ℕ) where
     same-run (suc left) (refusing number) s p = same-end (refusing number) p
 
 -- a pump that begins where one stands, in what is left of the out buffer
-abbrev anew : Progress → Progress
+abbrev pub anew : Progress → Progress
 anew p = startOf (p .hub) (p .at) (drop (eventSize * p .events) (p .out))
 
 -- a run from where a pump stands is the run that begins there, behind what was written and counted
@@ -145,7 +145,7 @@ run-anew left s p held =
 -- ---- a run in parts
 
 -- the verdict asks of the allowance only whether it is spent
-some-left : (a b : ℕ) (s : List ℕ) (p : Progress) → verdictOf (suc a) s p ≡ verdictOf (suc b) s p
+pub some-left : (a b : ℕ) (s : List ℕ) (p : Progress) → verdictOf (suc a) s p ≡ verdictOf (suc b) s p
 unfolding verdictOf stopOf
 some-left a b s p = rw (eqb·suc-zero a, eqb·suc-zero b)
 
@@ -168,7 +168,7 @@ module _ (b : ℕ) (s : List ℕ) where
 -- ---- a pump in parts
 
 -- a call that is not refused for what it is lent, nor the one that goes on
-lent-on : (batch out place out′ place′ : ℕ) → pumpRefusal batch out place ≡ 0 → out′ ≤ out → (place ≤ batch → place′ ≤ batch)
+pub lent-on : (batch out place out′ place′ : ℕ) → pumpRefusal batch out place ≡ 0 → out′ ≤ out → (place ≤ batch → place′ ≤ batch)
     → pumpRefusal batch out′ place′ ≡ 0
 unfolding pumpRefusal
 lent-on batch out place out′ place′ ok less inside =

@@ -10,6 +10,7 @@ use Rattle.rules.specs.declared.Hub.{Hub}
 use Rattle.rules.specs.declared.Answered.{Answered}
 use Rattle.rules.specs.declared.Registered.{Registered}
 use Rattle.rules.specs.declared.Pumped.{Pumped}
+use Rattle.numbers.specs.declared.Tilt.{Tilt}
 use Rattle.rules.specs.declared.RepeatAnswer.{RepeatAnswer}
 use Rattle.rules.specs.declared.TruthAnswer.{TruthAnswer}
 use Rattle.rules.specs.declared.ValueAnswer.{ValueAnswer}
@@ -17,6 +18,7 @@ use Rattle.rules.specs.declared.ButtonAnswer.{ButtonAnswer}
 use Rattle.rules.specs.declared.AxisAnswer.{AxisAnswer}
 use Rattle.rules.specs.declared.NumberAnswer.{NumberAnswer}
 use Rattle.rules.specs.Pump.{Run, pumpOf}
+use Rattle.rules.specs.Tilt.{pumpTilt}
 use Rattle.rules.specs.Repeat.{repeatOf}
 use Rattle.rules.specs.Calls.{newOf, registerOf, renameOf, updateOf, insertOf, incOf, resetOf}
 use Rattle.rules.specs.Queries.{pressedByCode, pressedByName, connectedOf, valueByCode, valueByName, thresholdByCode}
@@ -46,7 +48,7 @@ unique-register h sheet = one-equation _
 pub unique-rename : (h : Hub) (p : ℕ) (list : List ℕ) → One (λ (r : Answered). r ≡ renameOf h p list)
 unique-rename h p list = one-equation _
 
--- ---- the pump: the answer, the hub, and every byte of the out buffer. Its contract speaks of this record, `leaves` of `pump_laws/specs/Runs.antt`
+-- ---- the pump: the answer, the hub, and every byte of the out buffer, of which its contract's first equation speaks; and the report, by its second
 
 pub record SamePump (r s : Pumped) (after other : List ℕ) : Type 0 where
   pub answer : r .answer ≡ s .answer
@@ -64,6 +66,9 @@ unique-pump h batch place out allowance p q =
       hub = ap (λ (left : Run). left .pumped .hub) same;
       bytes = ap (λ (left : Run). left .out) same;
     }
+
+pub unique-report : (h : Hub) (batch : List ℕ) (place : ℕ) (out : List ℕ) (allowance : ℕ) → One (λ (t : Tilt). t ≡ pumpTilt h batch place out allowance)
+unique-report h batch place out allowance = one-equation _
 
 module _ (h : Hub) where
   -- ---- update and insert_event: the answer and the hub

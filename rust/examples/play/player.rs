@@ -1,8 +1,14 @@
 //! The scenario form's operations as calls of the crate, and their answers as lines. A call goes by its typed form where the operation's bytes have one.
 
 use crate::scenario::{self, Operation};
-use copperyarn::{AxisData, ButtonData, Code, Event, EventType, Hub, Name, PadId, Reason, Refusal, Settings, Sheet};
+use copperyarn::{
+    apply_deadzone, AxisData, ButtonData, Code, Event, EventType, Hub, Name, PadId, Reason, Refusal, Settings, Sheet,
+    Tilt,
+};
 use std::io::{self, Write};
+
+/// NaN has no bits of its own in the answers: each is written as this one.
+const NAN_BITS: u32 = 0x7fc0_0000;
 
 /// Plays all operations, and writes one line per answer and event.
 pub fn play(operations: &[Operation<'_>], out: &mut impl Write) -> io::Result<()> {
@@ -73,6 +79,7 @@ fn answers(hub: &mut Hub, operation: &Operation<'_>) -> Result<Vec<String>, Refu
         Operation::ByName(opcode, pad, name) => by_name(hub, opcode, PadId(pad), Name(name))?,
         Operation::Stands(pad) => format!("STANDS {}", u8::from(hub.is_connected(PadId(pad))?)),
         Operation::Waiting => format!("WAITING {}", hub.waiting()),
+        Operation::Deadzone { x, y, threshold } => calculated(x, y, threshold),
     };
     Ok(vec![line])
 }
@@ -108,7 +115,24 @@ fn pump(hub: &mut Hub, call: &scenario::Pump<'_>) -> Vec<String> {
     };
     let mut lines: Vec<String> = report.written(&out).map(|event| event_line(&event)).collect();
     lines.push(format!("{} {} {} {}", reason, report.place, report.events, report.steps));
+    if call.tilt {
+        lines.push(format!("TILT {}", report.tilt.map_or("NONE", tilt_word)));
+    }
     lines
+}
+
+fn calculated(x: f32, y: f32, threshold: f32) -> String {
+    let ((x, y), tilt) = apply_deadzone(x, y, threshold);
+    let bits = |value: f32| if value.is_nan() { NAN_BITS } else { value.to_bits() };
+    format!("PAIR {:08x} {:08x} {}", bits(x), bits(y), tilt_word(tilt))
+}
+
+fn tilt_word(tilt: Tilt) -> &'static str {
+    match tilt {
+        Tilt::Inside => "INSIDE",
+        Tilt::Between => "BETWEEN",
+        Tilt::Full => "FULL",
+    }
 }
 
 fn event_line(event: &Event) -> String {

@@ -17,7 +17,7 @@ fn played(scenarios: &str, answers: &str) -> usize {
 
 #[test]
 fn the_sample_is_answered_as_gilrs_does() {
-    assert_eq!(played("scenarios.bin", "answers.txt"), 31_059);
+    assert_eq!(played("scenarios.bin", "answers.txt"), 34_824);
 }
 
 #[test]
@@ -26,6 +26,6 @@ fn the_example_is_answered_as_01_says() {
 }
 
 #[test]
-fn the_worked_numbers_are_those_of_01() {
-    assert_eq!(played("worked.bin", "worked.txt"), 75);
+fn the_worked_numbers_are_those_of_01_and_of_w_205() {
+    assert_eq!(played("worked.bin", "worked.txt"), 98);
 }

@@ -1,12 +1,20 @@
-//! `feed` and `next_event` hand out what the bare pump writes, and leave the same hub, between any two events as well.
+//! `feed` and `next_event` hand out what the bare pump writes, and leave the same hub, between any two events as well; and a feed
+//! reports what the pumps together do.
 
 use crate::scenario::{self, Operation};
 use crate::{player, stored};
-use copperyarn::{Event, Hub, RawRecord, Reason, Refused};
+use copperyarn::{Event, Feed, Hub, RawRecord, Reason, Refused, Tilt};
 
-/// What a feed gives for the records: by the bare pump with a buffer of so many events, each refused record skipped.
-fn pumped(hub: &mut Hub, records: &[RawRecord], room: usize) -> Vec<Result<Event, Refused>> {
-    let mut given = Vec::new();
+/// What a feed gives, and which of three its last deadzone calculation for an axis event was.
+type Given = (Vec<Result<Event, Refused>>, Option<Tilt>);
+
+fn fed(mut feed: Feed<'_, '_>) -> Given {
+    (feed.by_ref().collect(), feed.tilt())
+}
+
+/// The same by the bare pump with a buffer of so many events, each refused record skipped.
+fn pumped(hub: &mut Hub, records: &[RawRecord], room: usize) -> Given {
+    let (mut given, mut tilt) = (Vec::new(), None);
     let mut out = vec![0; room * Event::SIZE];
     // 700 records stay under the longest batch
     for part in records.chunks(700) {
@@ -15,6 +23,7 @@ fn pumped(hub: &mut Hub, records: &[RawRecord], room: usize) -> Vec<Result<Event
         loop {
             let report = hub.pump(&batch, place, &mut out, u16::MAX);
             given.extend(report.written(&out).map(Ok));
+            tilt = report.tilt.or(tilt);
             place = report.place;
             match report.reason {
                 Reason::Drained => break,
@@ -26,18 +35,13 @@ fn pumped(hub: &mut Hub, records: &[RawRecord], room: usize) -> Vec<Result<Event
             }
         }
     }
-    given.extend(pumped_waiting(hub, &mut out));
-    given
-}
-
-/// What waits where there is no record at all.
-fn pumped_waiting(hub: &mut Hub, out: &mut [u8]) -> Vec<Result<Event, Refused>> {
-    let mut given = Vec::new();
+    // what waits where there is no record at all
     while hub.waiting() > 0 {
-        let report = hub.pump(&[], 0, out, u16::MAX);
-        given.extend(report.written(out).map(Ok));
+        let report = hub.pump(&[], 0, &mut out, u16::MAX);
+        given.extend(report.written(&out).map(Ok));
+        tilt = report.tilt.or(tilt);
     }
-    given
+    (given, tilt)
 }
 
 /// The records of a batch that have the form of one.
@@ -59,16 +63,21 @@ fn each_pump(mut look: impl FnMut(&Hub, &[RawRecord])) {
 
 #[test]
 fn a_feed_gives_what_pumps_give() {
-    let (mut events, mut refused) = (0, 0);
+    let (mut events, mut refused, mut tilts) = (0, 0, 0);
     each_pump(|hub, records| {
-        let (mut fed, mut bare) = (hub.clone(), hub.clone());
-        let given: Vec<_> = fed.feed(records).collect();
+        let (mut feeding, mut bare) = (hub.clone(), hub.clone());
+        let given = fed(feeding.feed(records));
         assert_eq!(given, pumped(&mut bare, records, 744));
-        assert!(fed == bare);
+        assert!(feeding == bare);
+        let (given, tilt) = given;
         events += given.iter().filter(|item| item.is_ok()).count();
         refused += given.iter().filter(|item| item.is_err()).count();
+        tilts += usize::from(tilt.is_some());
     });
-    assert!(events > 5_000 && refused > 100, "{events} events, {refused} refused records");
+    assert!(
+        events > 5_000 && refused > 100 && tilts > 500,
+        "{events} events, {refused} refused records, {tilts} tilts"
+    );
 }
 
 #[test]
@@ -123,9 +132,9 @@ fn any_number_of_records_is_fed() {
         }
     });
     assert!(many.len() > 2_000, "{} records", many.len());
-    for mut fed in hubs {
-        let mut bare = fed.clone();
-        assert_eq!(fed.feed(&many).collect::<Vec<_>>(), pumped(&mut bare, &many, 3));
-        assert!(fed == bare);
+    for mut feeding in hubs {
+        let mut bare = feeding.clone();
+        assert_eq!(fed(feeding.feed(&many)), pumped(&mut bare, &many, 3));
+        assert!(feeding == bare);
     }
 }

@@ -1,7 +1,6 @@
 -- `copperyarn::copperyarn_lent_pump` meets its contract: the call's equation, its answer as it crosses.
 use borrow.Author.Needs.{needs}
-use mathlib.Core.Path.{ap}
-use Rattle.copperyarn.specs.Exports.{reportedOf}
+use Rattle.copperyarn.specs.Exports.{reports-by}
 use Rattle.copperyarn.proofs.copperyarn_lent_pump.Statement.{statement}
 use Rattle.copperyarn.proofs.copperyarn_lent_pump.Tie as tie
 
@@ -15,7 +14,7 @@ same-length : tie.Need-same-length
 same-length c = search needs
 
 returns : tie.Need-returns
-returns c = rw (c .report-of .ensures) (ap reportedOf (c .before .before .before .before .pump .ensures))
+returns c = let p = c .before .before .before .before .pump .ensures in rw (c .report-of .ensures) (reports-by (p .0) (p .1))
 
 pub copperyarn-lent-pump-spec : {M : Type 1} → statement M
 copperyarn-lent-pump-spec =

@@ -1,6 +1,8 @@
 -- `deadzoned` meets its contract: each arm of the match is the clause of the law book for its kind of event, by whether there is a threshold.
 use borrow.Author.Needs.{needs}
 use Rattle.rules.specs.Filters.{deadzonedOf}
+use Rattle.rules.specs.Tilt.{zoneMet}
+use Rattle.filters.specs.Meets.{stick-meets}
 use Rattle.filters.proofs.deadzoned.Statement.{statement}
 use Rattle.filters.proofs.deadzoned.Tie as tie
 
@@ -17,8 +19,11 @@ stick-requires : tie.Need-stick-requires
 stick-requires c κs = search needs
 
 returns : tie.Need-returns
-unfolding deadzonedOf
-returns c = rw (c .stick .ensures, c .before .apply-deadzone .ensures, c .before .before .beside .ensures, c .before .before .before .before .if1 .taken, c .before .before .before .before .before .before .t .given .1)
+returns c =
+    let dead = c .before .before .before .before in
+    let axis = dead .before .before .t .given .1 in
+    let a = dead .before .before .before .before .args in
+    rw (c .stick .ensures, c .before .apply-deadzone .ensures, c .before .before .beside .ensures) (stick-meets (a .v) (a .e) axis (dead .if1 .taken))
 
 passes-requires : tie.Need-passes-requires
 passes-requires c κs = search needs
@@ -26,8 +31,8 @@ passes-requires c κs = search needs
 enum-known-t-2 : tie.Need-enum-known-t-2
 enum-known-t-2 c = search needs
 
-apply-deadzone-requires-2 : tie.Need-apply-deadzone-requires-2
-apply-deadzone-requires-2 c κs = search needs
+shrink-value-requires : tie.Need-shrink-value-requires
+shrink-value-requires c κs = search needs
 
 unless-requires : tie.Need-unless-requires
 unless-requires c κs = search needs
@@ -36,8 +41,8 @@ passes-requires-2 : tie.Need-passes-requires-2
 passes-requires-2 c κs = search needs
 
 returns-2 : tie.Need-returns-2
-unfolding deadzonedOf
-returns-2 c = rw (c .passes2 .ensures, c .before .unless .ensures, c .before .before .before .apply-deadzone2 .ensures, c .before .before .before .before .if2 .taken, c .before .before .before .before .before .before .t2 .given .1)
+unfolding deadzonedOf zoneMet
+returns-2 c = rw (c .passes2 .ensures, c .before .unless .ensures, c .before .before .before .shrink-value .ensures, c .before .before .before .before .if2 .taken, c .before .before .before .before .before .before .t2 .given .1)
 
 passes-requires-3 : tie.Need-passes-requires-3
 passes-requires-3 c κs = search needs
@@ -79,35 +84,35 @@ passes-requires-9 : tie.Need-passes-requires-9
 passes-requires-9 c κs = search needs
 
 returns-3 : tie.Need-returns-3
-unfolding deadzonedOf
+unfolding deadzonedOf zoneMet
 returns-3 c = rw (c .passes .ensures, c .before .if1 .left, c .before .before .before .t .given .1)
 
 returns-4 : tie.Need-returns-4
-unfolding deadzonedOf
+unfolding deadzonedOf zoneMet
 returns-4 c = rw (c .passes3 .ensures, c .before .if2 .left, c .before .before .before .t2 .given .1)
 
 returns-5 : tie.Need-returns-5
-unfolding deadzonedOf
+unfolding deadzonedOf zoneMet
 returns-5 c = rw (c .passes4 .ensures, c .before .enum-told .given .1)
 
 returns-6 : tie.Need-returns-6
-unfolding deadzonedOf
+unfolding deadzonedOf zoneMet
 returns-6 c = rw (c .passes5 .ensures, c .before .enum-told2 .given .1)
 
 returns-7 : tie.Need-returns-7
-unfolding deadzonedOf
+unfolding deadzonedOf zoneMet
 returns-7 c = rw (c .passes6 .ensures, c .before .enum-told3 .given .1)
 
 returns-8 : tie.Need-returns-8
-unfolding deadzonedOf
+unfolding deadzonedOf zoneMet
 returns-8 c = rw (c .passes7 .ensures, c .before .enum-told4 .given .1)
 
 returns-9 : tie.Need-returns-9
-unfolding deadzonedOf
+unfolding deadzonedOf zoneMet
 returns-9 c = rw (c .passes8 .ensures, c .before .enum-told5 .given .1)
 
 returns-10 : tie.Need-returns-10
-unfolding deadzonedOf
+unfolding deadzonedOf zoneMet
 returns-10 c = rw (c .passes9 .ensures, c .before .enum-told6 .given .1)
 
 pub deadzoned-spec : {M : Type 1} → statement M
@@ -121,7 +126,7 @@ deadzoned-spec =
     returns
     passes-requires
     enum-known-t-2
-    apply-deadzone-requires-2
+    shrink-value-requires
     unless-requires
     passes-requires-2
     returns-2

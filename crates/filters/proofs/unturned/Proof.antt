@@ -1,5 +1,7 @@
 -- `unturned` meets its contract: what the two filters ensure, one put into the other.
+use mathlib.Core.Path.{ap, _∙_}
 use borrow.Author.Needs.{needs}
+use Rattle.filters.specs.Meets.{zoneMeets}
 use Rattle.filters.proofs.unturned.Statement.{statement}
 use Rattle.filters.proofs.unturned.Tie as tie
 
@@ -10,7 +12,7 @@ deadzoned-requires : tie.Need-deadzoned-requires
 deadzoned-requires c κs = search needs
 
 returns : tie.Need-returns
-returns c = rw (c .deadzoned .ensures, c .before .jittered .ensures)
+returns c = c .deadzoned .ensures ∙ ap (zoneMeets _) (c .before .jittered .ensures)
 
 pub unturned-spec : {M : Type 1} → statement M
 unturned-spec = tie.close (tie.spec jittered-requires deadzoned-requires returns)

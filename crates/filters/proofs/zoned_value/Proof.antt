@@ -7,8 +7,8 @@ use Rattle.filters.proofs.zoned_value.Tie as tie
 enum-known-t : tie.Need-enum-known-t
 enum-known-t c = search needs
 
-apply-deadzone-requires : tie.Need-apply-deadzone-requires
-apply-deadzone-requires c κs = search needs
+shrink-value-requires : tie.Need-shrink-value-requires
+shrink-value-requires c κs = search needs
 
 unless-requires : tie.Need-unless-requires
 unless-requires c κs = search needs
@@ -36,7 +36,7 @@ enum-told-7 c = search needs
 
 returns : tie.Need-returns
 unfolding zonedValue
-returns c = rw (c .unless .ensures, c .before .apply-deadzone .ensures, c .before .before .before .t .given .1)
+returns c = rw (c .unless .ensures, c .before .shrink-value .ensures, c .before .before .before .t .given .1)
 
 returns-2 : tie.Need-returns-2
 unfolding zonedValue
@@ -71,7 +71,7 @@ zoned-value-spec =
     tie.close
     (tie.spec
     enum-known-t
-    apply-deadzone-requires
+    shrink-value-requires
     unless-requires
     enum-told
     enum-told-2

@@ -71,9 +71,9 @@ last-requires c κs =
     let a = lined .lines in
     let size = lined .before .before .before .lines-arg .given .0 .1 in
     let long = lending lined .pump-arg8 .given .0 .1 in
-    let few = steps-few _ _ _ _ _ _ _ _ _ s size long _ (p .ensures) _ (t .ensures) in
+    let few = steps-few _ _ _ _ _ _ _ _ _ s size long _ (p .ensures .0) _ (t .ensures) in
     let h = l .inv .0 .few in
-    (last-room _ _ _ _ _ _ _ _ _ s size long _ (p .ensures) _ (t .ensures) _ _ (a .ensures), omega arith)
+    (last-room _ _ _ _ _ _ _ _ _ s size long _ (p .ensures .0) _ (t .ensures) _ _ (a .ensures), omega arith)
 
 returns : tie.Need-returns Inv-loop μ-loop
 unfolding pumpAll
@@ -86,7 +86,7 @@ returns c =
     let a = lined .lines in
     let size = lined .before .before .before .lines-arg .given .0 .1 in
     let long = lending lined .pump-arg8 .given .0 .1 in
-    all-told _ _ _ _ _ _ _ _ _ s size long _ (p .ensures) _ (t .ensures) _ _ (a .ensures) _ _ (c .last .ensures) (c .before .before .if1 .taken)
+    all-told _ _ _ _ _ _ _ _ _ s size long _ (p .ensures .0) _ (t .ensures) _ _ (a .ensures) _ _ (c .last .ensures) (c .before .before .if1 .taken)
 
 add-steps : tie.Need-add-steps Inv-loop μ-loop
 unfolding pumpAll
@@ -99,7 +99,7 @@ add-steps c =
     let a = lined .lines in
     let size = lined .before .before .before .lines-arg .given .0 .1 in
     let long = lending lined .pump-arg8 .given .0 .1 in
-    let few = steps-few _ _ _ _ _ _ _ _ _ s size long _ (p .ensures) _ (t .ensures) in
+    let few = steps-few _ _ _ _ _ _ _ _ _ s size long _ (p .ensures .0) _ (t .ensures) in
     let h = l .inv .0 .few in
     record { fits = omega arith }
 
@@ -120,7 +120,7 @@ loop-again c =
     let a = lined .lines in
     let size = lined .before .before .before .lines-arg .given .0 .1 in
     let long = lending lined .pump-arg8 .given .0 .1 in
-    (goes-on _ _ _ _ _ _ _ _ _ s size long _ (p .ensures) _ (t .ensures) _ _ (a .ensures) (c .before .before .if1 .left), omega (arith, l .inv .1))
+    (goes-on _ _ _ _ _ _ _ _ _ s size long _ (p .ensures .0) _ (t .ensures) _ _ (a .ensures) (c .before .before .if1 .left), omega (arith, l .inv .1))
 
 returns-2 : tie.Need-returns-2 Inv-loop μ-loop
 returns-2 c =

@@ -1,15 +1,17 @@
 -- `passing::pass_stick` meets its contract: what is gathered is what a stick sees of the hub, and what the filters make of it is handed on, by whether it clears
 -- the partner.
 use borrow.Author.Needs.{needs}
-use mathlib.Core.Path.{refl}
+use mathlib.Core.Path.{refl, ap}
 use denote.Ref.{now}
 use mathlib.Core.List.{[]}
 use Rattle.rules.specs.declared.Hub.{Hub}
 use Rattle.columns.specs.Columns.{elementsOf, buttonsOf, axesOf}
 use Rattle.gather.specs.EventPlaces.{eventPlacesAt, placeMarksOf}
+use Rattle.filters.specs.declared.Met.{Met}
 use Rattle.queueing.specs.Queued.{pushed-none}
 use Rattle.passing.specs.Passing.{seenHub}
 use Rattle.passing.specs.Served.{stick-left}
+use Rattle.passing.specs.Met.{stick-met}
 use Rattle.passing.proofs.pass_stick.Statement.{statement}
 use Rattle.passing.proofs.pass_stick.Tie as tie
 
@@ -42,32 +44,41 @@ mark-flag-requires c κs = search needs
 mark-flag-requires-2 : tie.Need-mark-flag-requires-2
 mark-flag-requires-2 c κs = search needs
 
+latest-requires : tie.Need-latest-requires
+latest-requires c κs = search needs
+
 push-requires : tie.Need-push-requires
 push-requires c κs = search needs
 
 returns : tie.Need-returns
 returns c =
-    let both = c .before .before .before .before .before .before .before in
-    let z = both .before .before .before .before .before in
+    let met = c .before .before .before .before .before .before in
+    let both = met .before .before in
+    let z = both .before .before .before .before .before .before in
     let v = z .before in
     let found = v .before .before .before in
     let s = found .before .before .before in (
       refl,
       stick-left (seen s) (s .args .e) (s .args .place) (found .before .name-of .ensures) (found .stick-places .ensures) (v .view-in .ensures)
-          (z .unturned .ensures) (both .before .before .mark-flag .ensures) (both .mark-flag2 .ensures)
+          (ap (λ (m : Met). m .zoned) (z .unturned .ensures)) (both .before .before .mark-flag .ensures) (both .mark-flag2 .ensures)
           (rw (c .before .before .before .before .before .if1 .taken) (c .push .ensures)),
+      stick-met (seen s) (s .args .e) (s .args .place) (s .args .before) (found .before .name-of .ensures) (found .stick-places .ensures) (v .view-in .ensures)
+          (z .unturned .ensures) (met .latest .ensures),
     )
 
 returns-2 : tie.Need-returns-2
 returns-2 c =
-    let both = c .before .before in
-    let z = both .before .before .before .before .before in
+    let met = c .before in
+    let both = met .before .before in
+    let z = both .before .before .before .before .before .before in
     let v = z .before in
     let found = v .before .before .before in
     let s = found .before .before .before in (
       refl,
       stick-left (seen s) (s .args .e) (s .args .place) (found .before .name-of .ensures) (found .stick-places .ensures) (v .view-in .ensures)
-          (z .unturned .ensures) (both .before .before .mark-flag .ensures) (both .mark-flag2 .ensures) (rw (c .if1 .left) pushed-none),
+          (ap (λ (m : Met). m .zoned) (z .unturned .ensures)) (both .before .before .mark-flag .ensures) (both .mark-flag2 .ensures) (rw (c .if1 .left) pushed-none),
+      stick-met (seen s) (s .args .e) (s .args .place) (s .args .before) (found .before .name-of .ensures) (found .stick-places .ensures) (v .view-in .ensures)
+          (z .unturned .ensures) (met .latest .ensures),
     )
 
 pub pass-stick-spec : {M : Type 1} → statement M
@@ -80,6 +91,7 @@ pass-stick-spec =
     unturned-requires
     mark-flag-requires
     mark-flag-requires-2
+    latest-requires
     push-requires
     returns
     returns-2)

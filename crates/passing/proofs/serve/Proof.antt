@@ -12,6 +12,7 @@ use Rattle.taking.specs.Taking.{givesOf}
 use Rattle.passing.specs.Passing.{seenHub}
 use Rattle.passing.specs.Sent.{value-same, stick-same, sent-none, sent-same, sent-hat}
 use Rattle.passing.specs.Served.{serves-none, serves-value, serves-hat, serves-stick}
+use Rattle.passing.specs.Met.{met-else, met-here}
 use Rattle.passing.proofs.serve.Statement.{statement}
 use Rattle.passing.proofs.serve.Tie as tie
 
@@ -48,6 +49,7 @@ returns c =
       sent-none (now (a .codes)) (a .on) (a .t .event) (start l .pre .small) (start l .pre .is),
       serves-none (start l .args .on) (seen (start l)) (taken (start l)) (now (start l .args .marks)) refl refl refl (pushed l .push-next .ensures)
           (start l .pre .is) (l .lane-of .ensures) (c .if1 .taken),
+      met-else (a .on) (seen (start l)) (a .t .event) (a .before) (start l .pre .is) (l .lane-of .ensures) (λ is. omega (arith, is, c .if1 .taken)),
     )
 
 value-sent-requires : tie.Need-value-sent-requires
@@ -61,6 +63,8 @@ returns-2 c =
           (λ (z : 1 ≡ 0). omega arith) (c .value-sent .ensures) (value-same _ _ (a .t .event)) refl,
       serves-value (start l .args .on) (seen (start l)) (taken (start l)) (now (start l .args .marks)) refl refl refl (pushed l .push-next .ensures)
           (start l .pre .is) (l .lane-of .ensures) (c .before .before .before .if2 .taken) (c .value-sent .ensures),
+      met-else (a .on) (seen (start l)) (a .t .event) (a .before) (start l .pre .is) (l .lane-of .ensures)
+          (λ is. omega (arith, is, c .before .before .before .if2 .taken)),
     )
 
 turn-hat-requires : tie.Need-turn-hat-requires
@@ -75,6 +79,8 @@ returns-3 c =
           (t .small),
       serves-hat (start l .args .on) (seen (start l)) (taken (start l)) (now (start l .args .marks)) refl refl refl (pushed l .push-next .ensures)
           (start l .pre .is) (l .lane-of .ensures) (c .before .before .before .before .before .if3 .taken) (t .hands),
+      met-else (a .on) (seen (start l)) (a .t .event) (a .before) (start l .pre .is) (l .lane-of .ensures)
+          (λ is. omega (arith, is, c .before .before .before .before .before .if3 .taken)),
     )
 
 pass-stick-requires : tie.Need-pass-stick-requires
@@ -92,6 +98,8 @@ returns-4 c =
           (s .1 .hands .event) (stick-same _ (a .t .event)) (s .0),
       serves-stick (start l .args .on) (seen (start l)) (taken (start l)) (now (start l .args .marks)) refl refl refl (pushed l .push-next .ensures)
           (start l .pre .is) (l .lane-of .ensures) last (s .1),
+      met-here (a .on) (seen (start l)) (a .t .event) (a .before) (start l .pre .is) (l .lane-of .ensures) (now (a .marks)) refl refl refl
+          (pushed l .push-next .ensures) last (s .2),
     )
 
 pub serve-spec : {M : Type 1} → statement M

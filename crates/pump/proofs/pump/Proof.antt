@@ -12,15 +12,16 @@ use mathlib.Core.Path.{refl, sym, _∙_}
 use lib.ListN.{length, length-drop, length-take}
 use denote.Ref.{now}
 use native.Mathlib.Omega.{arith}
+use Rattle.numbers.specs.declared.Tilt.the-variants.{Unmet}
 use Rattle.rules.specs.declared.PumpAnswer.the-variants.{Refused}
-use Rattle.pump_laws.specs.Runs.{accepted, run-stops, run-refuses, pump-refuses}
+use Rattle.pump_laws.specs.Runs.{each, accepted, run-stops, run-refuses, pump-refuses}
 use Rattle.pump_laws.specs.Turns.{step-skips, step-keeps}
 use Rattle.cells.specs.Settled.{settled-hub}
 use Rattle.pump.proofs.pump.Statement.{statement}
 use Rattle.pump.proofs.pump.Tie as tie
 use Rattle.pump.proofs.pump.Proof.Loops.{Inv-loop2, μ-loop2, Inv-loop, μ-loop, At}
 use Rattle.pump.proofs.pump.Proof.Landmarks as mark
-use Rattle.pump.proofs.pump.Proof.Turns.{turns, head-served, hub-served, queuebytes-by, queuecodes-by}
+use Rattle.pump.proofs.pump.Proof.Turns.{turns, meets, head-served, hub-served, queuebytes-by, queuecodes-by}
 use Rattle.pump.proofs.pump.Proof.Plain as plain
 use Rattle.pump.proofs.pump.Proof.Writes.{written, as-long}
 use Rattle.pump.proofs.pump.Proof.Counts.{none-made, step-more, event-more}
@@ -29,7 +30,7 @@ returns : At tie.Need-returns
 returns c =
     let s = c .before .before .before .before in
     let a = s .args in
-    pump-refuses (mark.hub-given s) (now (a .batch)) (a .place) (now (a .out)) (a .allowance) (c .before .pump-refusal .ensures) (c .if1 .taken)
+    each (pump-refuses (mark.hub-given s) (now (a .batch)) (a .place) (now (a .out)) (a .allowance) (c .before .pump-refusal .ensures) (c .if1 .taken))
 
 loop-holds : At tie.Need-loop-holds
 loop-holds c =
@@ -43,7 +44,7 @@ loop-holds c =
         out-small = g .out-small;
         room = omega arith;
         steps-small = omega (arith, s .fits .allowance);
-        same = none-made (mark.hub-given s) (now (a .batch)) (a .place) (now (a .out)) (a .allowance);
+        same = none-made (mark.hub-given s) (now (a .batch)) (a .place) (now (a .out)) (a .allowance) Unmet;
       },
       refl,
       refl,
@@ -68,8 +69,8 @@ loop2-holds c =
 sub-stop-answer : At tie.Need-sub-stop-answer
 sub-stop-answer c = let i = c .before .before .before in omega (arith, i .loop2 .inv .1, mark.outer i .loop .inv .3)
 
-sub-t64 : At tie.Need-sub-t64
-sub-t64 c = let r = mark.room-in (mark.going (c .before .before .before)) in omega (arith, r .few)
+sub-t67 : At tie.Need-sub-t67
+sub-t67 c = let r = mark.room-in (mark.going (c .before .before .before)) in omega (arith, r .few)
 
 -- a stop
 returns-2 : At tie.Need-returns-2
@@ -78,10 +79,11 @@ returns-2 c =
     let i = t .before .before in
     let l = i .loop2 in
     let o = mark.outer i in
-    mark.headed (c .stop-answer .result) (mark.listed-in (mark.start o)) (mark.columns-in i) (o .loop .out) (c .before .stepped .ensures)
-    ∙ run-stops (mark.hub-in i) (mark.batch-in o) (l .at) (o .loop .out) (mark.events-in o) (mark.steps-in i) (l .left) (mark.stops (t .before)) (t .if2 .taken)
-    (c .stop-answer .ensures)
-    ∙ mark.whole-run i
+    each
+    (mark.headed (c .stop-answer .result) (l .tilt) (mark.listed-in (mark.start o)) (mark.columns-in i) (o .loop .out) (c .before .stepped .ensures)
+    ∙ run-stops (mark.hub-in i) (mark.batch-in o) (l .at) (o .loop .out) (mark.events-in o) (mark.steps-in i) (l .left) (l .tilt) (mark.stops (t .before))
+    (t .if2 .taken) (c .stop-answer .ensures)
+    ∙ mark.whole-run i)
 
 same-length-2 : At tie.Need-same-length-2
 same-length-2 c = let o = mark.outer (mark.inner-of (c .before .before .before)) .loop .inv in omega (arith, o .1)
@@ -94,11 +96,12 @@ returns-3 c =
     let i = mark.inner g in
     let l = i .loop2 in
     let o = mark.outer i in
-    mark.headed (Refused (t .take .result .number) (l .at) (mark.events-in o) (mark.steps-in i)) (mark.listed-in (mark.start o)) (mark.columns-in i) (o .loop .out)
-    (c .stepped2 .ensures)
-    ∙ run-refuses (mark.hub-in i) (mark.batch-in o) (l .at) (o .loop .out) (mark.events-in o) (mark.steps-in i) (l .left) (mark.stops (g .before)) (g .if2 .left)
-    (mark.taken-is t .number) (c .before .if3 .taken)
-    ∙ mark.whole-run i
+    each
+    (mark.headed (Refused (t .take .result .number) (l .at) (mark.events-in o) (mark.steps-in i)) (l .tilt) (mark.listed-in (mark.start o)) (mark.columns-in i)
+    (o .loop .out) (c .stepped2 .ensures)
+    ∙ run-refuses (mark.hub-in i) (mark.batch-in o) (l .at) (o .loop .out) (mark.events-in o) (mark.steps-in i) (l .left) (l .tilt) (mark.stops (g .before))
+    (g .if2 .left) (mark.taken-is t .number) (c .before .if3 .taken)
+    ∙ mark.whole-run i)
 
 sub-left : At tie.Need-sub-left
 sub-left c = let r = mark.room-in (mark.going (mark.taken (mark.accepted c))) in omega arith
@@ -107,12 +110,12 @@ serve-requires : At tie.Need-serve-requires
 serve-requires c κs = mark.given (mark.accepted (mark.lent c)) .placed
 
 loop2-less : At tie.Need-loop2-less
-loop2-less c = let r = mark.room-in (mark.going (mark.taken (mark.accepted-of (c .before .before)))) in omega arith
+loop2-less c = let r = mark.room-in (mark.going (mark.taken (mark.accepted-of (c .before .before .before)))) in omega arith
 
 -- a dropped event: a step that writes nothing
 loop2-again : At tie.Need-loop2-again
 loop2-again c =
-    let p = c .before .before in
+    let p = c .before .before .before in
     let y = mark.accepted-of p in
     let n = mark.inner-at p in
     let l = n .loop2 in
@@ -126,11 +129,12 @@ loop2-again c =
         room = i .room;
         steps-small = omega (arith, i .steps-small, r .few, r .step-left);
         same =
-            step-more _ (mark.batch-in o) _ (o .loop .out) (r .step-left) (r .few) (mark.events-in o)
+            step-more _ (mark.batch-in o) _ (o .loop .out) _ (r .step-left) (r .few) (mark.events-in o)
             ∙ sym
             (mark.goes-on y
             (step-skips (mark.hub-in n) (mark.batch-in o) (l .at) (o .loop .out) (mark.events-in o) (mark.steps-in n) refl (turns p) (mark.given y .place)
-            (sym (c .before .kept .ensures) ∙ c .if4 .left)))
+            (sym (c .before .kept .ensures) ∙ c .if4 .left))
+            (meets p))
             ∙ i .same;
       },
       omega (arith, l .inv .1),
@@ -175,7 +179,7 @@ loop-again c =
     let i = l .inv .0 in
     let r = mark.room-in (mark.going-of k) in
     let u = hub-served p in
-    let z = p .serve .result .event in
+    let z = p .serve .result .served .event in
     let wrote = c .before .before .write-event .ensures in
     let kept = sym (k .before .kept .ensures) ∙ k .if4 .taken in
     let place = p .serve .ensures .0 .is kept in
@@ -187,12 +191,13 @@ loop-again c =
         room = rw long (omega (arith, r .room, r .filled));
         steps-small = omega (arith, i .steps-small, r .few, r .step-left);
         same =
-            event-more _ (mark.batch-in o) _ _ (r .step-left) (r .few) (r .filled)
+            event-more _ (mark.batch-in o) _ _ _ (r .step-left) (r .few) (r .filled)
             ∙ sym
             (mark.goes-on y
             (step-keeps (mark.hub-in n) (mark.batch-in o) (l .at) (o .loop .out) (mark.events-in o) (mark.steps-in n) refl (turns p) (mark.given y .place) kept
             (settled-hub (head-served p) (mark.listed-in (mark.start o)) (queuebytes-by p) (queuecodes-by p) (u .updates) z (rw (← place) (w .settle .ensures)))
-            (written (o .loop .out) (mark.events-in o) (r .filled) (r .room) z wrote)))
+            (written (o .loop .out) (mark.events-in o) (r .filled) (r .room) z wrote))
+            (meets p))
             ∙ i .same ∙ o .loop .inv .0 .same;
       },
       long ∙ o .loop .inv .1,
@@ -222,7 +227,7 @@ pump-spec =
     returns-2
     plain.take-requires
     plain.stepped-requires-2
-    sub-t64
+    sub-t67
     same-length-2
     returns-3
     plain.mark-joins-requires

@@ -6,6 +6,9 @@ use borrow.Author.Needs.{needs}
 use Rattle.replay_events.proofs.send.Statement.{statement}
 use Rattle.replay_events.proofs.send.Tie as tie
 
+pumps-requires : tie.Need-pumps-requires
+pumps-requires c κs = search needs
+
 pump-requires : tie.Need-pump-requires
 pump-requires c κs = search needs
 
@@ -16,7 +19,7 @@ returns : tie.Need-returns
 unfolding sentOf
 returns c =
     let row = c .before .before .before .before .before .before .before .before .before .before .before in
-    rw (eq-eqb _ _ (row .if1 .taken)) (c .before .before .pump .ensures)
+    rw (← row .before .pumps .ensures, row .if1 .taken) (c .before .before .pump .ensures)
 
 update-requires : tie.Need-update-requires
 update-requires c κs = search needs
@@ -25,7 +28,8 @@ returns-2 : tie.Need-returns-2
 unfolding sentOf
 returns-2 c =
     let row = c .before .before .before .before .before .before in
-    rw (ne-eqb _ _ (row .before .if1 .left), eq-eqb _ _ (row .if2 .taken)) (ap (sent _) (c .update .ensures _ _ _ _ _))
+    let other = row .before in
+    rw (← other .before .pumps .ensures, other .if1 .left, eq-eqb _ _ (row .if2 .taken)) (ap (sent _) (c .update .ensures _ _ _ _ _))
 
 insert-requires : tie.Need-insert-requires
 insert-requires c κs = search needs
@@ -34,7 +38,8 @@ returns-3 : tie.Need-returns-3
 unfolding sentOf
 returns-3 c =
     let row = c .before .before .before .before .before in
-    rw (ne-eqb _ _ (row .before .before .if1 .left), ne-eqb _ _ (row .before .if2 .left), eq-eqb _ _ (row .if3 .taken))
+    let other = row .before .before in
+    rw (← other .before .pumps .ensures, other .if1 .left, ne-eqb _ _ (row .before .if2 .left), eq-eqb _ _ (row .if3 .taken))
     (ap (sent _) (c .insert .ensures _ _ _ _ _ _))
 
 count-requires : tie.Need-count-requires
@@ -43,8 +48,10 @@ count-requires c κs = search needs
 returns-4 : tie.Need-returns-4
 unfolding sentOf
 returns-4 c =
+    let other = c .before .before .before in
     rw (
-      ne-eqb _ _ (c .before .before .before .if1 .left),
+      ← other .before .pumps .ensures,
+      other .if1 .left,
       ne-eqb _ _ (c .before .before .if2 .left),
       ne-eqb _ _ (c .before .if3 .left),
     )
@@ -54,6 +61,7 @@ pub send-spec : {M : Type 1} → statement M
 send-spec =
     tie.close
     (tie.spec
+    pumps-requires
     pump-requires
     same-length
     returns

@@ -1,8 +1,11 @@
--- `replay_events::sends` meets its contract: what `either` ensures, four times.
+-- `replay_events::sends` meets its contract: what `pumps` ensures, and `either`, four times.
 use Rattle.replay_events.specs.Sent.{sends}
 use borrow.Author.Needs.{needs}
 use Rattle.replay_events.proofs.sends.Statement.{statement}
 use Rattle.replay_events.proofs.sends.Tie as tie
+
+pumps-requires : tie.Need-pumps-requires
+pumps-requires c κs = search needs
 
 either-requires : tie.Need-either-requires
 either-requires c κs = search needs
@@ -18,9 +21,23 @@ either-requires-4 c κs = search needs
 
 returns : tie.Need-returns
 unfolding sends
-returns c = rw (c .either4 .ensures, c .before .either3 .ensures, c .before .before .either2 .ensures, c .before .before .before .either .ensures)
+returns c =
+    let first = c .before .before .before in
+    rw (
+      c .either4 .ensures,
+      c .before .either3 .ensures,
+      c .before .before .either2 .ensures,
+      first .either .ensures,
+      first .before .pumps .ensures,
+    )
 
 pub sends-spec : {M : Type 1} → statement M
 sends-spec =
     tie.close
-    (tie.spec either-requires either-requires-2 either-requires-3 either-requires-4 returns)
+    (tie.spec
+    pumps-requires
+    either-requires
+    either-requires-2
+    either-requires-3
+    either-requires-4
+    returns)

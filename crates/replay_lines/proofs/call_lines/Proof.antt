@@ -38,14 +38,20 @@ pumped-requires c κs = tt
 enum-known-answer-5 : tie.Need-enum-known-answer-5
 enum-known-answer-5 c = c .match .keys5
 
+reported-requires : tie.Need-reported-requires
+reported-requires c κs = tt
+
+enum-known-answer-6 : tie.Need-enum-known-answer-6
+enum-known-answer-6 c = c .match .keys6
+
 slice-aggregate-done-3 : tie.Need-slice-aggregate-done-3
 slice-aggregate-done-3 c = refl
 
 done-requires-3 : tie.Need-done-requires-3
 done-requires-3 c κs = tt
 
-enum-known-answer-6 : tie.Need-enum-known-answer-6
-enum-known-answer-6 c = c .match .keys6
+enum-known-answer-7 : tie.Need-enum-known-answer-7
+enum-known-answer-7 c = c .match .keys7
 
 slice-aggregate-done-4 : tie.Need-slice-aggregate-done-4
 slice-aggregate-done-4 c = refl
@@ -53,14 +59,14 @@ slice-aggregate-done-4 c = refl
 done-requires-4 : tie.Need-done-requires-4
 done-requires-4 c κs = tt
 
-enum-known-answer-7 : tie.Need-enum-known-answer-7
-enum-known-answer-7 c = c .match .keys7
+enum-known-answer-8 : tie.Need-enum-known-answer-8
+enum-known-answer-8 c = c .match .keys8
 
 counted-requires : tie.Need-counted-requires
 counted-requires c κs = tt
 
 enum-told : tie.Need-enum-told
-enum-told c = c .match .keys8
+enum-told c = c .match .keys9
 
 none-requires : tie.Need-none-requires
 none-requires c κs = tt
@@ -98,28 +104,35 @@ same-length-5 c = search needs
 
 returns-5 : tie.Need-returns-5
 unfolding callPieces
-returns-5 c = rw (c .before .before .before .before .before .before .answer5 .given .1) (c .before .before .done3 .ensures)
+returns-5 c = rw (c .before .before .before .before .before .answer5 .given .1) (c .before .before .reported .ensures)
 
 same-length-6 : tie.Need-same-length-6
 same-length-6 c = search needs
 
 returns-6 : tie.Need-returns-6
 unfolding callPieces
-returns-6 c = rw (c .before .before .before .before .before .before .answer6 .given .1) (c .before .before .done4 .ensures)
+returns-6 c = rw (c .before .before .before .before .before .before .answer6 .given .1) (c .before .before .done3 .ensures)
 
 same-length-7 : tie.Need-same-length-7
 same-length-7 c = search needs
 
 returns-7 : tie.Need-returns-7
 unfolding callPieces
-returns-7 c = rw (c .before .before .before .before .before .answer7 .given .1) (c .before .before .counted .ensures)
+returns-7 c = rw (c .before .before .before .before .before .before .answer7 .given .1) (c .before .before .done4 .ensures)
 
 same-length-8 : tie.Need-same-length-8
 same-length-8 c = search needs
 
 returns-8 : tie.Need-returns-8
 unfolding callPieces
-returns-8 c = rw (c .before .before .before .before .enum-told .given .1) (c .before .before .none .ensures)
+returns-8 c = rw (c .before .before .before .before .before .answer8 .given .1) (c .before .before .counted .ensures)
+
+same-length-9 : tie.Need-same-length-9
+same-length-9 c = search needs
+
+returns-9 : tie.Need-returns-9
+unfolding callPieces
+returns-9 c = rw (c .before .before .before .before .enum-told .given .1) (c .before .before .none .ensures)
 
 pub call-lines-spec : {M : Type 1} → statement M
 call-lines-spec =
@@ -136,12 +149,14 @@ call-lines-spec =
     enum-known-answer-4
     pumped-requires
     enum-known-answer-5
+    reported-requires
+    enum-known-answer-6
     slice-aggregate-done-3
     done-requires-3
-    enum-known-answer-6
+    enum-known-answer-7
     slice-aggregate-done-4
     done-requires-4
-    enum-known-answer-7
+    enum-known-answer-8
     counted-requires
     enum-told
     none-requires
@@ -160,4 +175,6 @@ call-lines-spec =
     same-length-7
     returns-7
     same-length-8
-    returns-8)
+    returns-8
+    same-length-9
+    returns-9)

@@ -96,8 +96,14 @@ enum-known-answer-12 c = c .match .keys12
 since-requires : tie.Need-since-requires
 since-requires c κs = tt
 
+enum-known-answer-13 : tie.Need-enum-known-answer-13
+enum-known-answer-13 c = c .match .keys13
+
+pair-requires : tie.Need-pair-requires
+pair-requires c κs = tt
+
 enum-told : tie.Need-enum-told
-enum-told c = c .match .keys13
+enum-told c = c .match .keys14
 
 none-requires : tie.Need-none-requires
 none-requires c κs = tt
@@ -191,7 +197,14 @@ same-length-13 c = search needs
 
 returns-13 : tie.Need-returns-13
 unfolding queryPieces
-returns-13 c = rw (c .before .before .before .before .enum-told .given .1) (c .before .before .none .ensures)
+returns-13 c = rw (c .before .before .before .before .before .answer13 .given .1) (c .before .before .pair .ensures)
+
+same-length-14 : tie.Need-same-length-14
+same-length-14 c = search needs
+
+returns-14 : tie.Need-returns-14
+unfolding queryPieces
+returns-14 c = rw (c .before .before .before .before .enum-told .given .1) (c .before .before .none .ensures)
 
 pub query-line-spec : {M : Type 1} → statement M
 query-line-spec =
@@ -227,6 +240,8 @@ query-line-spec =
     counted-requires
     enum-known-answer-12
     since-requires
+    enum-known-answer-13
+    pair-requires
     enum-told
     none-requires
     same-length
@@ -254,4 +269,6 @@ query-line-spec =
     same-length-12
     returns-12
     same-length-13
-    returns-13)
+    returns-13
+    same-length-14
+    returns-14)

@@ -4,6 +4,7 @@ use mathlib.Core.Bool.{true, false}
 use mathlib.Core.List.{[], _∷_}
 use lib.Ieee as Ieee
 use Rattle.numbers.specs.Constants.{one32, minusOne32}
+use Rattle.numbers.specs.declared.Tilt.the-variants.{Unmet, Inside, Between, Full}
 use Rattle.rules.specs.declared.EventType.the-variants.{Repeated}
 use Rattle.rules.specs.declared.Answer.the-variants as answer
 use Rattle.rules.specs.declared.RegisterAnswer.the-variants as registerAnswer
@@ -15,7 +16,7 @@ use Rattle.rules.specs.declared.ButtonAnswer.the-variants as buttonAnswe
 use Rattle.rules.specs.declared.AxisAnswer.the-variants as axisAnswer
 use Rattle.rules.specs.declared.NumberAnswer.the-variants as numberAnswer
 use Rattle.rules.specs.Events.{eventBytes}
-use Rattle.rules.specs.Answers.{served, refused, answerSays, registerSays, pumpSays, repeatSays, truthSays, valueSays, buttonSays, axisSays, numberSays}
+use Rattle.rules.specs.Answers.{served, refused, answerSays, registerSays, pumpSays, tiltSays, repeatSays, truthSays, valueSays, buttonSays, axisSays, numberSays}
 use Rattle.rules.specs.Examples.Table.{_is_, Right, event}
 
 -- "The answer holds reason, place, events written, and the number of steps made"; a refusal in the pump stands beside place, events and steps
@@ -34,6 +35,9 @@ calls :
     ∷ repeatSays (repeatAnswer.Refused 15) is refused 15 []
     ∷ [])
 calls = refl
+
+tilts : Right (tiltSays Unmet is 0 ∷ tiltSays Inside is 1 ∷ tiltSays Between is 2 ∷ tiltSays Full is 3 ∷ [])
+tilts = refl
 
 -- a truth is 0 or 1, a float its bits
 queries :

@@ -7,13 +7,16 @@ use mathlib.Core.List.{List}
 use lib.ListN.{length}
 use denote.Ref.{now}
 use native.Mathlib.Omega.{arith}
+use Rattle.numbers.specs.declared.Tilt.{Tilt}
 use Rattle.rules.specs.declared.Hub.{Hub}
 use Rattle.rules.specs.declared.PumpAnswer.{PumpAnswer}
 use Rattle.rules.specs.Names.{bufferLimit}
 use Rattle.rules.specs.Forms.{eventSize}
-use Rattle.rules.specs.Pump.{Progress, Run, stepped, stopOf, pumpOf}
-use Rattle.pump_laws.specs.Runs.{rest, standing, roomy, run-goes, pump-runs}
+use Rattle.rules.specs.Pump.{Progress, stepped, stopOf}
+use Rattle.rules.specs.Tilt.{noted}
+use Rattle.pump_laws.specs.Runs.{Reported, rest, standing, call, roomy, run-goes, pump-runs}
 use Rattle.hub.specs.declared.Head.{Head}
+use Rattle.hub.specs.declared.PumpedHead.{PumpedHead}
 use Rattle.hub.specs.Lent.{Listed, Columns, listed, columns, hubOf, pumped}
 use Rattle.taking.specs.Taking.{TakenIs, GivenIs, taken-in}
 use Rattle.pump.specs.Stepped.{steppedHead}
@@ -71,7 +74,7 @@ abbrev pub kept : At tie.After-settle → At tie.Then4
 kept c = c .before .before .before .before .before .before .before
 
 abbrev pub served : At tie.Then4 → At tie.After-serve
-served c = c .before .before
+served c = c .before .before .before
 
 abbrev pub going-of : At tie.Then4 → At tie.Else2
 going-of c = going (taken (accepted-of (served c)))
@@ -157,13 +160,13 @@ room-in c =
     record { room = omega arith; small = i .out-small; step-left = g .step-left; filled = o .inv .2; few = omega (arith, l .inv .1, o .inv .3) }
 
 -- the run that is left where the inner loop stands, and the whole call
-abbrev pub run-in : At tie.At-loop2 → Run
-run-in c = rest (c .loop2 .left) (batch-in (outer c)) (standing-in c)
+abbrev pub run-in : At tie.At-loop2 → Reported
+run-in c = rest (c .loop2 .left) (batch-in (outer c)) (standing-in c) (c .loop2 .tilt)
 
-abbrev pub call : At tie.Start → Run
-call c = let a = c .args in pumpOf (hub-given c) (now (a .batch)) (a .place) (now (a .out)) (a .allowance)
+abbrev pub call-in : At tie.Start → Reported
+call-in c = let a = c .args in call (hub-given c) (now (a .batch)) (a .place) (now (a .out)) (a .allowance)
 
-pub whole-run : (c : At tie.At-loop2) → run-in c ≡ call (start (outer c))
+pub whole-run : (c : At tie.At-loop2) → run-in c ≡ call-in (start (outer c))
 whole-run c =
     let n = admitted (outer c) in
     let s = start (outer c) in
@@ -171,12 +174,16 @@ whole-run c =
     c .loop2 .inv .0 .same ∙ outer c .loop .inv .0 .same
     ∙ pump-runs (hub-given s) (now (a .batch)) (a .place) (now (a .out)) (a .allowance) (n .before .pump-refusal .ensures) (n .if1 .left)
 
+-- what a call leaves, with its report
+abbrev reported : PumpedHead → Listed → Columns → List ℕ → Reported
+reported r s t out = record { run = pumped r s t out; tilt = r .tilt }
+
 -- what a call leaves that stops or refuses, with the head put together
 pub headed :
-    (a : PumpAnswer) (s : Listed) (t : Columns) (out : List ℕ) {r d : Head} →
+    (a : PumpAnswer) (tilt : Tilt) (s : Listed) (t : Columns) (out : List ℕ) {r d : Head} →
     r ≡ d →
-    pumped (record { head = r; answer = a }) s t out ≡ pumped (record { head = d; answer = a }) s t out
-headed a s t out e = ap (λ (x : Head). pumped (record { head = x; answer = a }) s t out) e
+    reported (record { head = r; answer = a; tilt = tilt }) s t out ≡ reported (record { head = d; answer = a; tilt = tilt }) s t out
+headed a tilt s t out e = ap (λ (x : Head). reported (record { head = x; answer = a; tilt = tilt }) s t out) e
 
 -- what is taken
 pub taken-is : (c : At tie.After-take) → let i = inner-of c in TakenIs (hub-in i) (batch-in (outer i)) (i .loop2 .at) (c .take .result)
@@ -188,16 +195,19 @@ given c = taken-is (taken c) .given (c .if3 .left)
 
 -- what is taken, and not refused, makes a step more
 pub goes-on :
-    (c : At tie.Else3) {p : Progress} →
+    (c : At tie.Else3) {p : Progress} {tilt : Tilt} →
     let i = inner-of (taken c) in
-    let b = batch-in (outer i) in p ≡ stepped b (standing-in i) → run-in i ≡ rest (i .loop2 .left - 1) b p
-goes-on c e =
+    let b = batch-in (outer i) in
+    p ≡ stepped b (standing-in i) →
+    tilt ≡ noted b (standing-in i) (i .loop2 .tilt) →
+    run-in i ≡ rest (i .loop2 .left - 1) b p tilt
+goes-on c e met =
     let g = going (taken c) in
     let i = inner g in
     let l = i .loop2 in
     let o = outer i in
-    run-goes (hub-in i) (batch-in o) (l .at) (o .loop .out) (events-in o) (steps-in i) (l .left) (stops (g .before)) (g .if2 .left)
-    (taken-is (taken c) .number) (c .if3 .left) e
+    run-goes (hub-in i) (batch-in o) (l .at) (o .loop .out) (events-in o) (steps-in i) (l .left) (l .tilt) (stops (g .before)) (g .if2 .left)
+    (taken-is (taken c) .number) (c .if3 .left) e met
 
 -- there was room where a kept event is written
 pub room-of : (c : At tie.After-settle) → Room (going-of (kept c))

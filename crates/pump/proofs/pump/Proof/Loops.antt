@@ -1,4 +1,4 @@
--- The pump's loops. At the head of each the run that is left from where the pump stands is the whole run, at the hub that head and arrays stand for. The bytes
+-- The pump's loops. At the head of each the run that is left from where the pump stands is the whole run, and its report the call's, at the hub that head and arrays stand for. The bytes
 -- filled tell the events written, and what is left of the allowance the steps made. The measure is what is left of the allowance.
 use Prim.Native.Nat.{ℕ, _-_, _*_, _/_, _≤_}
 use mathlib.Core.Path.{_≡_}
@@ -21,45 +21,47 @@ hubAt head connected renamed flags front waiting s t = hubOf (steppedHead head c
 -- the inner loop: one step of the law book a turn
 abbrev pub Inv-loop2 : tie.InvT-loop2
 Inv-loop2 codes kinds names renames hasbutton₀ hasaxis₀ values₀ times₀ marks queuebytes₀ queuecodes₀ batch place out allowance h refused
-    connected₀ renamed₀ flags₀ front₀ waiting₀ converts newconverts at₀ filled most left₀ hasbutton hasaxis values times queuebytes queuecodes
-    connected renamed flags front waiting at left =
+    connected₀ renamed₀ flags₀ front₀ waiting₀ converts newconverts at₀ filled most left₀ tilt₀ hasbutton hasaxis values times queuebytes queuecodes
+    connected renamed flags front waiting at left tilt =
     Going
     (hubAt h connected renamed flags front waiting (listed codes kinds names renames) (columns hasbutton hasaxis values times marks queuebytes queuecodes))
-    batch at out (filled / eventSize) (most - left) left
+    batch at out (filled / eventSize) (most - left) left tilt
     (rest left₀ batch
     (standing
     (hubAt h connected₀ renamed₀ flags₀ front₀ waiting₀ (listed codes kinds names renames)
     (columns hasbutton₀ hasaxis₀ values₀ times₀ marks queuebytes₀ queuecodes₀))
-    at₀ out (filled / eventSize) (most - left₀)))
+    at₀ out (filled / eventSize) (most - left₀))
+    tilt₀)
     × (left ≤ left₀)
 
 abbrev pub μ-loop2 : tie.MeasureT-loop2
 μ-loop2 codes kinds names renames hasbutton₀ hasaxis₀ values₀ times₀ marks queuebytes₀ queuecodes₀ batch place out allowance h refused
-    connected₀ renamed₀ flags₀ front₀ waiting₀ converts newconverts at₀ filled most left₀ hasbutton hasaxis values times queuebytes queuecodes
-    connected renamed flags front waiting at left =
+    connected₀ renamed₀ flags₀ front₀ waiting₀ converts newconverts at₀ filled most left₀ tilt₀ hasbutton hasaxis values times queuebytes queuecodes
+    connected renamed flags front waiting at left tilt =
     left
 
 -- the outer loop: one kept event a turn
 abbrev pub Inv-loop : tie.InvT-loop
 Inv-loop codes kinds names renames hasbutton₀ hasaxis₀ values₀ times₀ marks₀ queuebytes₀ queuecodes₀ batch place out₀ allowance h refused
-    connected₀ renamed₀ flags₀ front₀ waiting₀ converts newconverts at₀ filled₀ most left₀ hasbutton hasaxis values times marks queuebytes queuecodes
-    out connected renamed flags front waiting at filled left =
+    connected₀ renamed₀ flags₀ front₀ waiting₀ converts newconverts at₀ filled₀ most left₀ tilt₀ hasbutton hasaxis values times marks queuebytes queuecodes
+    out connected renamed flags front waiting at filled left tilt =
     Going
     (hubAt h connected renamed flags front waiting (listed codes kinds names renames) (columns hasbutton hasaxis values times marks queuebytes queuecodes))
-    batch at out (filled / eventSize) (most - left) left
+    batch at out (filled / eventSize) (most - left) left tilt
     (rest left₀ batch
     (standing
     (hubAt h connected₀ renamed₀ flags₀ front₀ waiting₀ (listed codes kinds names renames)
     (columns hasbutton₀ hasaxis₀ values₀ times₀ marks₀ queuebytes₀ queuecodes₀))
-    at₀ out₀ 0 0))
+    at₀ out₀ 0 0)
+    tilt₀)
     × (length out ≡ length out₀)
     × (filled ≡ eventSize * (filled / eventSize))
     × (left ≤ most)
 
 abbrev pub μ-loop : tie.MeasureT-loop
 μ-loop codes kinds names renames hasbutton₀ hasaxis₀ values₀ times₀ marks₀ queuebytes₀ queuecodes₀ batch place out₀ allowance h refused
-    connected₀ renamed₀ flags₀ front₀ waiting₀ converts newconverts at₀ filled₀ most left₀ hasbutton hasaxis values times marks queuebytes queuecodes
-    out connected renamed flags front waiting at filled left =
+    connected₀ renamed₀ flags₀ front₀ waiting₀ converts newconverts at₀ filled₀ most left₀ tilt₀ hasbutton hasaxis values times marks queuebytes queuecodes
+    out connected renamed flags front waiting at filled left tilt =
     left
 
 -- a place of the code, or a need, with these invariants and measures

@@ -1,11 +1,11 @@
--- `replay_queries::repeat` meets its contract: by the payload's length, and the three times read.
+-- `replay_queries::timed::repeat` meets its contract: by the payload's length, and the three times read.
 use mathlib.Core.Path.{ap}
 use Rattle.replay_answers.specs.declared.Asked.the-variants as asked
 use borrow.Author.Tests.{eq-eqb, ne-eqb}
 use Rattle.replay_queries.specs.Asked.{repeated}
 use borrow.Author.Needs.{needs}
-use Rattle.replay_queries.proofs.repeat.Statement.{statement}
-use Rattle.replay_queries.proofs.repeat.Tie as tie
+use Rattle.replay_queries.proofs.timed.repeat.Statement.{statement}
+use Rattle.replay_queries.proofs.timed.repeat.Tie as tie
 
 returns : tie.Need-returns
 unfolding repeated

@@ -1,9 +1,9 @@
--- `passing::lane_of` meets its contract: by the event's kind, and by what each kind asks for.
+-- `passing::lanes::lane_of` meets its contract: by the event's kind, and by what each kind asks for.
 use borrow.Author.Needs.{needs}
 use borrow.Author.Tests.{not-true, not-false, eq-eqb, ne-eqb}
 use Rattle.filters.specs.Lanes.{laneOf}
-use Rattle.passing.proofs.lane_of.Statement.{statement}
-use Rattle.passing.proofs.lane_of.Tie as tie
+use Rattle.passing.proofs.lanes.lane_of.Statement.{statement}
+use Rattle.passing.proofs.lanes.lane_of.Tie as tie
 
 returns : tie.Need-returns
 unfolding laneOf

@@ -1,0 +1,1 @@
+// Theorems about the deadzone's report, over the definitions of `numbers` and `rules`, in specs/. No function.
