@@ -18,33 +18,25 @@ use Rattle.rules.specs.Sheets.{elementAxis}
 use Rattle.rules.specs.Places.{placeOf}
 use Rattle.rules.specs.Events.{nameOf, codeOf}
 use Rattle.rules.specs.Filters.{jitteredOf}
-use Rattle.rules.specs.Hub.{convertsIn, viewAt, viewOf, hatPlaceOf, partnerPlaceOf, pressedAt, valueAt, elementAt, buttonAt, axisAt}
+use Rattle.rules.specs.Hub.{convertsIn, viewAt, viewOf, hatPlaceOf, partnerPlaceOf, pressedAt, valueAt}
 use Rattle.rules.specs.Tilt.{zoneMet, metOf, metIn, latest}
 use Rattle.columns.specs.Columns.{elementsOf, buttonsOf, axesOf}
-use Rattle.gather.specs.declared.EventPlaces.{EventPlaces}
-use Rattle.gather.specs.EventPlaces.{EventPlacesAre, viewBy}
 use Rattle.filters.specs.declared.Met.{Met}
 use Rattle.filters.specs.Lanes.{laneOf, undirected}
 use Rattle.filters.specs.Meets.{zoneMeets, stickMetOf, unmet-else, met-stick}
 use Rattle.queueing.specs.Queued.{Pushed}
-use Rattle.passing.specs.Passing.{seenHub, seenOf, lane-is, view-is}
+use Rattle.passing.specs.Passing.{seenHub, seenOf, lane-is}
 
 -- ---- a stick
 
--- from what is gathered of a hub and made of it
+-- from what it sees of a hub, and what is made of it
 pub stick-met :
-    (h : Hub) (e : Event) (k : ℕ) (before : Tilt) {name : ℕ} {s : EventPlaces} {v : View} {f : Met} {tilt : Tilt} →
-    name ≡ nameOf e →
-    EventPlacesAre (h .codes) (h .kinds) (h .names) (h .renames) (h .renamed) (h .hasbutton) (h .hasaxis) (h .flags) (e .pad) name k s →
-    v
-    ≡ viewBy s (elementAt h (s .own .place)) (buttonAt h (s .own .place)) (axisAt h (s .own .place)) (buttonAt h (s .partner .place))
-    (axisAt h (s .partner .place)) →
+    (h : Hub) (e : Event) (k : ℕ) (before : Tilt) {v : View} {f : Met} {tilt : Tilt} →
+    v ≡ undirected (viewAt h (e .pad) (nameOf e) k) →
     f ≡ zoneMeets v (jitteredOf v e) →
     tilt ≡ latest (f .tilt) before →
     tilt ≡ latest (stickMetOf (viewAt h (e .pad) (nameOf e) k) e) before
-stick-met h e k before {name} {s} {v} en seen ev ef et =
-    let sees : v ≡ undirected (viewAt h (e .pad) (nameOf e) k) =
-    ev ∙ view-is h (e .pad) name k s seen ∙ ap (λ (n : ℕ). undirected (viewAt h (e .pad) n k)) en in
+stick-met h e k before sees ef et =
     et ∙ ap (λ (m : Met). latest (m .tilt) before) ef ∙ ap (λ (w : View). latest (zoneMet w (jitteredOf w e)) before) sees
 
 -- all but the directions, so it does not matter which pads convert

@@ -131,13 +131,23 @@ unfolding viewOf viewAt valueAt
 stick-seen m e ep = rw ep
 
 -- what is gathered of a hub for a stick
-pub view-is :
+view-is :
     (h : Hub) (p n k : ℕ) (s : EventPlaces) →
     EventPlacesAre (h .codes) (h .kinds) (h .names) (h .renames) (h .renamed) (h .hasbutton) (h .hasaxis) (h .flags) p n k s →
     viewBy s (elementAt h (s .own .place)) (buttonAt h (s .own .place)) (axisAt h (s .own .place)) (buttonAt h (s .partner .place)) (axisAt h (s .partner .place))
     ≡ undirected (viewAt h p n k)
 unfolding viewBy eventPlacesAt placeMarksOf viewAt valueAt
 view-is h p n k s seen = rw (seen .is)
+
+pub stick-sees :
+    (h : Hub) (e : Event) (k : ℕ) {name : ℕ} {s : EventPlaces} {v : View} →
+    name ≡ nameOf e →
+    EventPlacesAre (h .codes) (h .kinds) (h .names) (h .renames) (h .renamed) (h .hasbutton) (h .hasaxis) (h .flags) (e .pad) name k s →
+    v
+    ≡ viewBy s (elementAt h (s .own .place)) (buttonAt h (s .own .place)) (axisAt h (s .own .place)) (buttonAt h (s .partner .place))
+    (axisAt h (s .partner .place)) →
+    v ≡ undirected (viewAt h (e .pad) (nameOf e) k)
+stick-sees h e k {name} {s} en seen ev = ev ∙ view-is h (e .pad) name k s seen ∙ ap (λ (n : ℕ). undirected (viewAt h (e .pad) n k)) en
 
 pub flags-at :
     (h : Hub) (e : Event) (f : Flags) {name k : ℕ} {s : EventPlaces} {flagged both : List Bool} →

@@ -24,14 +24,14 @@ use Rattle.rules.specs.Sheets.{elementAxis}
 use Rattle.rules.specs.Places.{placeOf}
 use Rattle.rules.specs.Events.{nameOf, codeOf, eventIf}
 use Rattle.rules.specs.Filters.{Filtered, filteredOf, dpadOf, jitteredOf, deadzonedOf}
-use Rattle.rules.specs.Hub.{convertsIn, viewAt, viewOf, elementAt, buttonAt, axisAt, pastElement}
+use Rattle.rules.specs.Hub.{convertsIn, viewAt, viewOf, pastElement}
 use Rattle.rules.specs.Step.{pushesOf, flagsSet, pushedOf, filteredIn, filteredHub}
 use Rattle.columns.specs.Columns.{elementsOf, buttonsOf, axesOf}
 use Rattle.hub.specs.declared.Head.{Head}
 use Rattle.hub.specs.Heads.{headFlags, headQueue}
 use Rattle.hub.specs.Lent.{Listed, columns, hubOf}
 use Rattle.gather.specs.declared.EventPlaces.{EventPlaces}
-use Rattle.gather.specs.EventPlaces.{EventPlacesAre, viewBy}
+use Rattle.gather.specs.EventPlaces.{EventPlacesAre}
 use Rattle.filters.specs.declared.dpad.Converted.{Converted}
 use Rattle.filters.specs.Converted.{counted}
 use Rattle.filters.specs.Queued.{queuedAt, queued-is}
@@ -40,7 +40,7 @@ use Rattle.cells.specs.Seen.{storedAt}
 use Rattle.queueing.specs.Queued.{Pushed, pushed-none, pushed-then}
 use Rattle.passing.specs.declared.Served.{Served}
 use Rattle.passing.specs.Sent.{hat-named, turnedPlace}
-use Rattle.passing.specs.Passing.{seenOf, seen-same, same-flags, lane-is, value-seen, hatView, hat-seen, stickIn, stick-seen, view-is, flags-at}
+use Rattle.passing.specs.Passing.{seenOf, seen-same, same-flags, lane-is, value-seen, hatView, hat-seen, stickIn, stick-seen, flags-at}
 
 -- what is left of d, r being what is handed on, where v is the view of d's event: vs are values, ts times, bs the queue's bytes and cs its codes
 pub record ServedIs
@@ -99,23 +99,19 @@ hat-left e {v} {w} {g} {x} {place} ev eg ex p =
     let all : x ≡ length (dpadOf v e .queued) = ex ∙ ap (λ (r : Converted). r .count) eg in
     record { event = rw (eg, ev); queued = rw (← ev, ← take-all x (dpadOf v e .queued) (omega (arith, all))) p }
 
--- what a stick's event leaves, from what is gathered of a hub and made of it
+-- what a stick's event leaves, from what is gathered of a hub, what it sees and what is made of it
 pub stick-left :
     (h : Hub) (e : Event) (k : ℕ) {name : ℕ} {s : EventPlaces} {v : View} {z : Zoned} {flagged both : List Bool} {vs vs1 : List Float}
     {ts bs cs ts1 bs1 cs1 : List ℕ} {head waiting all place : ℕ} →
     name ≡ nameOf e →
     EventPlacesAre (h .codes) (h .kinds) (h .names) (h .renames) (h .renamed) (h .hasbutton) (h .hasaxis) (h .flags) (e .pad) name k s →
-    v
-    ≡ viewBy s (elementAt h (s .own .place)) (buttonAt h (s .own .place)) (axisAt h (s .own .place)) (buttonAt h (s .partner .place))
-    (axisAt h (s .partner .place)) →
+    v ≡ undirected (viewAt h (e .pad) (nameOf e) k) →
     z ≡ deadzonedOf v (jitteredOf v e) →
     flagged ≡ set (h .flags) (s .flag) (z .flags .own) →
     both ≡ set flagged (s .other) (z .flags .partner) →
     Pushed vs ts bs cs head waiting (clearingOf z) vs1 ts1 bs1 cs1 all →
     StickIs (stickZonedOf (viewAt h (e .pad) (nameOf e) k) e) e (h .flags) head waiting vs ts bs cs (record { event = z .event; waiting = all; place = place }) both vs1 ts1 bs1 cs1
-stick-left h e k {name} {s} {v} {z} en seen ev ez e1 e2 p =
-    let sees : v ≡ undirected (viewAt h (e .pad) (nameOf e) k) =
-    ev ∙ view-is h (e .pad) name k s seen ∙ ap (λ (n : ℕ). undirected (viewAt h (e .pad) n k)) en in
+stick-left h e k {name} {s} {v} {z} en seen sees ez e1 e2 p =
     let is : z ≡ stickZonedOf (viewAt h (e .pad) (nameOf e) k) e = ez ∙ ap (λ (w : View). deadzonedOf w (jitteredOf w e)) sees in
     record {
       hands = record { event = ap (λ (y : Zoned). y .event) is; queued = rw is at p };

@@ -9,7 +9,7 @@ use Rattle.columns.specs.Columns.{elementsOf, buttonsOf, axesOf}
 use Rattle.gather.specs.EventPlaces.{eventPlacesAt, placeMarksOf}
 use Rattle.filters.specs.declared.Met.{Met}
 use Rattle.queueing.specs.Queued.{pushed-none}
-use Rattle.passing.specs.Passing.{seenHub}
+use Rattle.passing.specs.Passing.{seenHub, stick-sees}
 use Rattle.passing.specs.Served.{stick-left}
 use Rattle.passing.specs.Met.{stick-met}
 use Rattle.passing.proofs.pass_stick.Statement.{statement}
@@ -57,13 +57,13 @@ returns c =
     let z = both .before .before .before .before .before .before in
     let v = z .before in
     let found = v .before .before .before in
-    let s = found .before .before .before in (
+    let s = found .before .before .before in
+    let sees = stick-sees (seen s) (s .args .e) (s .args .place) (found .before .name-of .ensures) (found .stick-places .ensures) (v .view-in .ensures) in (
       refl,
-      stick-left (seen s) (s .args .e) (s .args .place) (found .before .name-of .ensures) (found .stick-places .ensures) (v .view-in .ensures)
+      stick-left (seen s) (s .args .e) (s .args .place) (found .before .name-of .ensures) (found .stick-places .ensures) sees
           (ap (λ (m : Met). m .zoned) (z .unturned .ensures)) (both .before .before .mark-flag .ensures) (both .mark-flag2 .ensures)
           (rw (c .before .before .before .before .before .if1 .taken) (c .push .ensures)),
-      stick-met (seen s) (s .args .e) (s .args .place) (s .args .before) (found .before .name-of .ensures) (found .stick-places .ensures) (v .view-in .ensures)
-          (z .unturned .ensures) (met .latest .ensures),
+      stick-met (seen s) (s .args .e) (s .args .place) (s .args .before) sees (z .unturned .ensures) (met .latest .ensures),
     )
 
 returns-2 : tie.Need-returns-2
@@ -73,12 +73,12 @@ returns-2 c =
     let z = both .before .before .before .before .before .before in
     let v = z .before in
     let found = v .before .before .before in
-    let s = found .before .before .before in (
+    let s = found .before .before .before in
+    let sees = stick-sees (seen s) (s .args .e) (s .args .place) (found .before .name-of .ensures) (found .stick-places .ensures) (v .view-in .ensures) in (
       refl,
-      stick-left (seen s) (s .args .e) (s .args .place) (found .before .name-of .ensures) (found .stick-places .ensures) (v .view-in .ensures)
+      stick-left (seen s) (s .args .e) (s .args .place) (found .before .name-of .ensures) (found .stick-places .ensures) sees
           (ap (λ (m : Met). m .zoned) (z .unturned .ensures)) (both .before .before .mark-flag .ensures) (both .mark-flag2 .ensures) (rw (c .if1 .left) pushed-none),
-      stick-met (seen s) (s .args .e) (s .args .place) (s .args .before) (found .before .name-of .ensures) (found .stick-places .ensures) (v .view-in .ensures)
-          (z .unturned .ensures) (met .latest .ensures),
+      stick-met (seen s) (s .args .e) (s .args .place) (s .args .before) sees (z .unturned .ensures) (met .latest .ensures),
     )
 
 pub pass-stick-spec : {M : Type 1} → statement M
