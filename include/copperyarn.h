@@ -168,6 +168,13 @@ typedef struct copperyarn_axis_answer {
     uint64_t counter;
 } copperyarn_axis_answer;
 
+/* What is down on a pad. */
+typedef struct copperyarn_down_answer {
+    uint8_t refusal;
+    uint8_t count; /* of its button records that are pressed, 52 at most */
+    bool axis;     /* whether one of them is an axis element's */
+} copperyarn_down_answer;
+
 typedef struct copperyarn_pump_answer {
     uint8_t refusal;
     uint8_t reason; /* a copperyarn_reason; 0 where it was refused */
@@ -188,6 +195,7 @@ typedef struct copperyarn_head {
     float pressed, released;
     bool reversed, filters, updates;
     uint64_t counter;
+    uint64_t down[4]; /* of each pad a bit for each place whose button record is pressed */
     uint8_t pads;
     uint8_t counts[4];
     bool connected[4];
@@ -196,6 +204,8 @@ typedef struct copperyarn_head {
     bool renamed[4];
     uint8_t newhats[4];
     bool newconverts[4];
+    uint8_t held[4];     /* how many these are */
+    uint8_t heldaxes[4]; /* and how many of them axis elements' */
     bool flags[24];
     uint8_t head, waiting;
 } copperyarn_head;
@@ -272,8 +282,10 @@ static inline copperyarn_pump_answer copperyarn_pump(
 /* Gives an event, 22 bytes, to the state alone: what a repeat that is due is fed back by.
  * Answers 0 or refuses 8, 6, 9, 11, 12 in this order. */
 static inline uint8_t copperyarn_update(copperyarn_hub *hub, const uint8_t *event, size_t size) {
-    return copperyarn_lent_update(
-        hub->head, hub->codes, hub->hasbutton, hub->hasaxis, hub->values, hub->times, hub->marks, copperyarn_lend(event, size), size);
+    copperyarn_lent_done done = copperyarn_lent_update(
+        hub->head, hub->codes, hub->kinds, hub->hasbutton, hub->hasaxis, hub->values, hub->times, hub->marks, copperyarn_lend(event, size), size);
+    hub->head = done.head;
+    return done.refusal;
 }
 
 /* Lets an event, 22 bytes, wait behind those that wait; the next pump takes it before any record.
@@ -307,85 +319,9 @@ static inline uint64_t copperyarn_counter(const copperyarn_hub *hub) { return co
  * Refuses nothing. */
 static inline void copperyarn_reset_counter(copperyarn_hub *hub) { hub->head = copperyarn_lent_reset_counter(hub->head); }
 
-/* ---- queries: the hub stays as it is */
+/* ---- queries: whether a button is pressed, an axis's value, records, names, what is down; each takes a const hub, and it stays as it is */
 
-/* Whether a button is pressed, by its name; a name that no element has is looked up by gilrs's own code for it.
- * Refuses 6, 16 in this order. */
-static inline copperyarn_truth_answer copperyarn_is_pressed(const copperyarn_hub *hub, uint8_t pad, uint8_t name) {
-    return copperyarn_lent_is_pressed(
-        hub->head, hub->codes, hub->names, hub->renames, hub->hasbutton, hub->values, hub->times, hub->marks, pad, name);
-}
-
-/* The same by a code: false for one that is not known.
- * Refuses 6. */
-static inline copperyarn_truth_answer copperyarn_is_pressed_by_code(const copperyarn_hub *hub, uint8_t pad, uint32_t code) {
-    return copperyarn_lent_is_pressed_by_code(hub->head, hub->codes, hub->hasbutton, hub->values, hub->times, hub->marks, pad, code);
-}
-
-/* The value of an axis, by its name; 0.0 where it has none yet. It is always known.
- * Refuses 6, 16 in this order. */
-static inline copperyarn_value_answer copperyarn_value(const copperyarn_hub *hub, uint8_t pad, uint8_t name) {
-    return copperyarn_lent_value(
-        hub->head, hub->names, hub->renames, hub->hasbutton, hub->hasaxis, hub->values, hub->times, hub->marks, pad, name);
-}
-
-/* The value of a code: of its axis record, else of its button record, else 0.0. It is always known.
- * Refuses 6. */
-static inline copperyarn_value_answer copperyarn_value_by_code(const copperyarn_hub *hub, uint8_t pad, uint32_t code) {
-    return copperyarn_lent_value_by_code(hub->head, hub->codes, hub->hasbutton, hub->hasaxis, hub->values, hub->times, hub->marks, pad, code);
-}
-
-/* The button record of a name, not known before an event has written it.
- * Refuses 6, 16 in this order. */
-static inline copperyarn_button_answer copperyarn_button_data(const copperyarn_hub *hub, uint8_t pad, uint8_t name) {
-    return copperyarn_lent_button_data(hub->head, hub->names, hub->renames, hub->hasbutton, hub->values, hub->times, hub->marks, pad, name);
-}
-
-/* The same by a code.
- * Refuses 6. */
-static inline copperyarn_button_answer copperyarn_button_data_by_code(const copperyarn_hub *hub, uint8_t pad, uint32_t code) {
-    return copperyarn_lent_button_data_by_code(hub->head, hub->codes, hub->hasbutton, hub->values, hub->times, hub->marks, pad, code);
-}
-
-/* The axis record of a name, not known before an event has written it.
- * Refuses 6, 16 in this order. */
-static inline copperyarn_axis_answer copperyarn_axis_data(const copperyarn_hub *hub, uint8_t pad, uint8_t name) {
-    return copperyarn_lent_axis_data(hub->head, hub->names, hub->renames, hub->hasaxis, hub->values, hub->times, pad, name);
-}
-
-/* The same by a code.
- * Refuses 6. */
-static inline copperyarn_axis_answer copperyarn_axis_data_by_code(const copperyarn_hub *hub, uint8_t pad, uint32_t code) {
-    return copperyarn_lent_axis_data_by_code(hub->head, hub->codes, hub->hasaxis, hub->values, hub->times, pad, code);
-}
-
-/* The deadzone threshold of a code, known for axis elements alone.
- * Refuses 6. */
-static inline copperyarn_value_answer copperyarn_deadzone_threshold(const copperyarn_hub *hub, uint8_t pad, uint32_t code) {
-    return copperyarn_lent_deadzone_threshold(hub->head, hub->codes, hub->kinds, hub->values, hub->marks, pad, code);
-}
-
-/* The present name of a code, not known where it has none.
- * Refuses 6. */
-static inline copperyarn_number_answer copperyarn_axis_or_btn_name(const copperyarn_hub *hub, uint8_t pad, uint32_t code) {
-    return copperyarn_lent_axis_or_btn_name(hub->head, hub->codes, hub->names, hub->renames, pad, code);
-}
-
-/* The code that has a name at present, a button's or an axis's; not known where none has.
- * Refuses 6, 16 in this order. */
-static inline copperyarn_number_answer copperyarn_code_of_name(const copperyarn_hub *hub, uint8_t pad, uint8_t name) {
-    return copperyarn_lent_code_of_name(hub->head, hub->codes, hub->names, hub->renames, pad, name);
-}
-
-/* Whether a pad is connected.
- * Refuses 6. */
-static inline copperyarn_truth_answer copperyarn_is_connected(const copperyarn_hub *hub, uint8_t pad) {
-    return copperyarn_lent_is_connected(hub->head, pad);
-}
-
-/* How many events wait, 0 to 64.
- * Refuses nothing. */
-static inline uint8_t copperyarn_waiting(const copperyarn_hub *hub) { return copperyarn_lent_waiting(hub->head); }
+#include "copperyarn_queries.h"
 
 #ifdef __cplusplus
 }

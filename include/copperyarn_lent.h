@@ -1,6 +1,6 @@
 /* Below the surface of copperyarn.h, which includes this file; programs have no need to call it. First the layout that the library was proved and compiled
  * with, held by assertions. Then its functions: each takes the head by value and of the hub's arrays those that it reads or writes, and each is proved to be
- * the call (crates/copperyarn). The calls in copperyarn.h lend a hub's fields to them, and do nothing else. The one that asks no hub
+ * the call (crates/copperyarn). The calls in copperyarn.h and copperyarn_queries.h lend a hub's fields to them, and do nothing else. The one that asks no hub
  * is declared in copperyarn_tilt.h. */
 #ifndef COPPERYARN_LENT_H
 #define COPPERYARN_LENT_H
@@ -69,6 +69,11 @@ COPPERYARN_AT(copperyarn_axis_answer, value, 4);
 COPPERYARN_AT(copperyarn_axis_answer, stamp, 8);
 COPPERYARN_AT(copperyarn_axis_answer, counter, 16);
 
+COPPERYARN_SIZE(copperyarn_down_answer, 3);
+COPPERYARN_AT(copperyarn_down_answer, refusal, 0);
+COPPERYARN_AT(copperyarn_down_answer, count, 1);
+COPPERYARN_AT(copperyarn_down_answer, axis, 2);
+
 COPPERYARN_SIZE(copperyarn_pump_answer, 32);
 COPPERYARN_AT(copperyarn_pump_answer, refusal, 0);
 COPPERYARN_AT(copperyarn_pump_answer, reason, 1);
@@ -86,48 +91,51 @@ COPPERYARN_AT(copperyarn_tilted, x, 0);
 COPPERYARN_AT(copperyarn_tilted, y, 4);
 COPPERYARN_AT(copperyarn_tilted, tilt, 8);
 
-COPPERYARN_SIZE(copperyarn_head, 80);
+COPPERYARN_SIZE(copperyarn_head, 120);
 COPPERYARN_AT(copperyarn_head, pressed, 0);
 COPPERYARN_AT(copperyarn_head, released, 4);
 COPPERYARN_AT(copperyarn_head, reversed, 8);
 COPPERYARN_AT(copperyarn_head, filters, 9);
 COPPERYARN_AT(copperyarn_head, updates, 10);
 COPPERYARN_AT(copperyarn_head, counter, 16);
-COPPERYARN_AT(copperyarn_head, pads, 24);
-COPPERYARN_AT(copperyarn_head, counts, 25);
-COPPERYARN_AT(copperyarn_head, connected, 29);
-COPPERYARN_AT(copperyarn_head, hats, 33);
-COPPERYARN_AT(copperyarn_head, converts, 37);
-COPPERYARN_AT(copperyarn_head, renamed, 41);
-COPPERYARN_AT(copperyarn_head, newhats, 45);
-COPPERYARN_AT(copperyarn_head, newconverts, 49);
-COPPERYARN_AT(copperyarn_head, flags, 53);
-COPPERYARN_AT(copperyarn_head, head, 77);
-COPPERYARN_AT(copperyarn_head, waiting, 78);
+COPPERYARN_AT(copperyarn_head, down, 24);
+COPPERYARN_AT(copperyarn_head, pads, 56);
+COPPERYARN_AT(copperyarn_head, counts, 57);
+COPPERYARN_AT(copperyarn_head, connected, 61);
+COPPERYARN_AT(copperyarn_head, hats, 65);
+COPPERYARN_AT(copperyarn_head, converts, 69);
+COPPERYARN_AT(copperyarn_head, renamed, 73);
+COPPERYARN_AT(copperyarn_head, newhats, 77);
+COPPERYARN_AT(copperyarn_head, newconverts, 81);
+COPPERYARN_AT(copperyarn_head, held, 85);
+COPPERYARN_AT(copperyarn_head, heldaxes, 89);
+COPPERYARN_AT(copperyarn_head, flags, 93);
+COPPERYARN_AT(copperyarn_head, head, 117);
+COPPERYARN_AT(copperyarn_head, waiting, 118);
 
-COPPERYARN_SIZE(copperyarn_hub, 16344);
+COPPERYARN_SIZE(copperyarn_hub, 16384);
 COPPERYARN_AT(copperyarn_hub, head, 0);
-COPPERYARN_AT(copperyarn_hub, codes, 80);
-COPPERYARN_AT(copperyarn_hub, kinds, 912);
-COPPERYARN_AT(copperyarn_hub, names, 1120);
-COPPERYARN_AT(copperyarn_hub, renames, 1328);
-COPPERYARN_AT(copperyarn_hub, hasbutton, 1536);
-COPPERYARN_AT(copperyarn_hub, hasaxis, 1744);
-COPPERYARN_AT(copperyarn_hub, values, 1952);
-COPPERYARN_AT(copperyarn_hub, times, 6392);
-COPPERYARN_AT(copperyarn_hub, marks, 15264);
-COPPERYARN_AT(copperyarn_hub, queuebytes, 15891);
-COPPERYARN_AT(copperyarn_hub, queuecodes, 16084);
+COPPERYARN_AT(copperyarn_hub, codes, 120);
+COPPERYARN_AT(copperyarn_hub, kinds, 952);
+COPPERYARN_AT(copperyarn_hub, names, 1160);
+COPPERYARN_AT(copperyarn_hub, renames, 1368);
+COPPERYARN_AT(copperyarn_hub, hasbutton, 1576);
+COPPERYARN_AT(copperyarn_hub, hasaxis, 1784);
+COPPERYARN_AT(copperyarn_hub, values, 1992);
+COPPERYARN_AT(copperyarn_hub, times, 6432);
+COPPERYARN_AT(copperyarn_hub, marks, 15304);
+COPPERYARN_AT(copperyarn_hub, queuebytes, 15931);
+COPPERYARN_AT(copperyarn_hub, queuecodes, 16124);
 
-COPPERYARN_SIZE(copperyarn_lent_done, 88);
+COPPERYARN_SIZE(copperyarn_lent_done, 128);
 COPPERYARN_AT(copperyarn_lent_done, head, 0);
-COPPERYARN_AT(copperyarn_lent_done, refusal, 80);
-COPPERYARN_SIZE(copperyarn_lent_registered, 88);
+COPPERYARN_AT(copperyarn_lent_done, refusal, 120);
+COPPERYARN_SIZE(copperyarn_lent_registered, 128);
 COPPERYARN_AT(copperyarn_lent_registered, head, 0);
-COPPERYARN_AT(copperyarn_lent_registered, pad, 80);
-COPPERYARN_SIZE(copperyarn_lent_pumped, 112);
+COPPERYARN_AT(copperyarn_lent_registered, pad, 120);
+COPPERYARN_SIZE(copperyarn_lent_pumped, 152);
 COPPERYARN_AT(copperyarn_lent_pumped, head, 0);
-COPPERYARN_AT(copperyarn_lent_pumped, report, 80);
+COPPERYARN_AT(copperyarn_lent_pumped, report, 120);
 
 /* ---- the library's functions, in the order of the calls. Bytes cross as two arguments, a pointer, never NULL, and a size. */
 
@@ -144,8 +152,8 @@ copperyarn_lent_pumped copperyarn_lent_pump(
     copperyarn_head head, const uint32_t *codes, const uint8_t *kinds, const uint8_t *names, const uint8_t *renames, bool *hasbutton, bool *hasaxis,
     float *values, uint64_t *times, bool *marks, uint8_t *queuebytes, uint32_t *queuecodes,
     const uint8_t *batch, size_t batch_size, size_t place, uint8_t *out, size_t out_size, uint16_t allowance);
-uint8_t copperyarn_lent_update(
-    copperyarn_head head, const uint32_t *codes, bool *hasbutton, bool *hasaxis, float *values, uint64_t *times, bool *marks,
+copperyarn_lent_done copperyarn_lent_update(
+    copperyarn_head head, const uint32_t *codes, const uint8_t *kinds, bool *hasbutton, bool *hasaxis, float *values, uint64_t *times, bool *marks,
     const uint8_t *event, size_t size);
 copperyarn_lent_done copperyarn_lent_insert_event(
     copperyarn_head head, const uint32_t *codes, float *values, uint64_t *times, uint8_t *queuebytes, uint32_t *queuecodes,
@@ -188,6 +196,8 @@ copperyarn_number_answer copperyarn_lent_axis_or_btn_name(
 copperyarn_number_answer copperyarn_lent_code_of_name(
     copperyarn_head head, const uint32_t *codes, const uint8_t *names, const uint8_t *renames, uint8_t pad, uint8_t name);
 copperyarn_truth_answer copperyarn_lent_is_connected(copperyarn_head head, uint8_t pad);
+copperyarn_down_answer copperyarn_lent_down(copperyarn_head head, uint8_t pad);
+copperyarn_number_answer copperyarn_lent_lowest_pressed(copperyarn_head head, const uint32_t *codes, uint8_t pad);
 uint8_t copperyarn_lent_waiting(copperyarn_head head);
 
 #endif

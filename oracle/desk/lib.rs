@@ -1,6 +1,7 @@
 //! The player's desk: one hub of 01, played on gilrs. A call that 01 refuses is answered by number and not given to the
 //! crate. This crate is built twice, over gilrs with the Y axis reversed and not.
 
+mod down;
 mod held;
 mod hub;
 mod own_loop;
@@ -82,6 +83,8 @@ impl CrateDesk {
             Operation::ByCode(opcode, pad, code) => one(query::by_code(&self.hub, opcode, self.pad(pad)?, code)),
             Operation::ByName(opcode, pad, name) => one(query::by_name(&self.hub, opcode, self.pad(pad)?, name)),
             Operation::Stands(pad) => one(format!("STANDS {}", u8::from(self.hub.pad(self.pad(pad)?).is_connected()))),
+            Operation::Down(pad) => one(down::down(&self.hub, &self.plan.pads, self.pad(pad)?)),
+            Operation::LowestPressed(pad) => one(down::lowest(&self.hub, self.pad(pad)?)),
             Operation::Waiting => one(format!("WAITING {}", self.hub.waiting())),
             Operation::Dump => self.dump(),
             Operation::Deadzone { x, y, threshold } => one(Calculation { x, y, threshold }.line()),

@@ -22,6 +22,17 @@ pub fn buttons(lines: &[String]) -> BTreeSet<(u8, u32)> {
     found
 }
 
+/// The pads whose button records the events that a pump wrote may have moved: of all kinds but an axis's.
+pub fn touched(lines: &[String]) -> BTreeSet<u8> {
+    let mut found = BTreeSet::new();
+    for words in lines.iter().map(|line| line.split(' ').collect::<Vec<_>>()) {
+        if event::WORDS.contains(&words[0]) && words[0] != event::WORDS[usize::from(event::AXIS)] {
+            found.insert(pad_in(words[1]));
+        }
+    }
+    found
+}
+
 /// The place in a pump's answer.
 pub fn place(line: &str) -> usize {
     line.split(' ').rev().nth(2).and_then(|word| word.parse().ok()).expect("a place")

@@ -1,8 +1,9 @@
 //! Random scenarios. Each is played while it is made, so that a later pump can go on at the place where an earlier one
-//! stopped, and a repeat can be given back to `update`. Since when a button is held is asked wherever one was heard of:
-//! behind its record, an event given to `update`, a pump's events, a dump. That draws no number. Which pumps ask for
-//! their report, and what is asked of the deadzone calculation, is drawn beside the rest. So the other operations of a
-//! seed are the same with these and without.
+//! stopped, and a repeat can be given back to `update`. What the requests ask for is drawn beside the rest, or draws no
+//! number: since when a button is held and what is down (`asks`), which pumps ask for their report, what is asked of the
+//! deadzone calculation. So the other operations of a seed are the same with these and without.
+
+mod asks;
 
 use crate::lines;
 use crate::pads;
@@ -10,16 +11,17 @@ use crate::play;
 use crate::random::Random;
 use crate::tilts;
 use crate::traffic::Traffic;
-use reading::bytes::{field32, put};
+use reading::bytes::put;
 use reading::event;
 use reading::record;
 use reading::sheet::Sheet;
-use reading::{names, scenario, Desk, LAST_TIME, LONGEST_BUFFER, LONGEST_REPEAT};
+use reading::{scenario, Desk, LAST_TIME, LONGEST_BUFFER, LONGEST_REPEAT};
 
 struct Scene<'a> {
     random: &'a mut Random,
-    /// What operations 40 and 41 are drawn from.
+    /// What operations 40 and 41 are drawn from, and what 38 and 39.
     aside: Random,
+    looks: Random,
     desk: Option<Box<dyn Desk>>,
     bytes: Vec<u8>,
     traffic: Traffic,
@@ -34,10 +36,21 @@ struct Scene<'a> {
 /// One scenario, from its `new` to its last dump and what is asked of it; in some the sticks are watched behind that.
 pub fn scene(random: &mut Random) -> Vec<u8> {
     let aside = random.beside();
+    let looks = aside.beside();
     let traffic = Traffic::new(random);
     let (sheets, renames) = pads::preparation(random);
-    let mut scene =
-        Scene { random, aside, desk: None, bytes: Vec::new(), traffic, sheets, renames, batch: Vec::new(), place: 0 };
+    let mut scene = Scene {
+        random,
+        aside,
+        looks,
+        desk: None,
+        bytes: Vec::new(),
+        traffic,
+        sheets,
+        renames,
+        batch: Vec::new(),
+        place: 0,
+    };
     scene.open();
     // without a hub every answer is the same
     let most = if scene.desk.is_some() { 30 } else { 5 };
@@ -95,6 +108,7 @@ impl Scene<'_> {
         if let Some(sheet) = self.sheets.pop() {
             let lines = self.play(scenario::REGISTER, &sheet);
             if lines.first().map_or(false, |line| line.starts_with("PAD")) {
+                self.ask_down(self.traffic.pads.len() as u8);
                 self.traffic.pads.extend(Sheet::read(&sheet).ok());
             }
         }
@@ -143,6 +157,7 @@ impl Scene<'_> {
     fn rename(&mut self) {
         if let Some(list) = self.renames.pop() {
             self.play(scenario::RENAME, &list);
+            self.ask_down(list[0]);
         }
     }
 
@@ -192,9 +207,7 @@ impl Scene<'_> {
     fn pump_with(&mut self, out: usize, allowance: u64) {
         let opcode = self.aside.among(&[scenario::PUMP, scenario::PUMP_TILT]);
         let lines = self.play_pump(opcode, out, allowance);
-        for (pad, code) in lines::buttons(&lines) {
-            self.ask_since(pad, code);
-        }
+        self.ask_of_pump(&lines);
         if lines.last().map_or(false, |last| last.starts_with("PAUSED")) && self.random.chance(30) {
             self.dump();
         }
@@ -242,7 +255,8 @@ impl Scene<'_> {
         self.place = 0;
         for _ in 0..9 {
             let allowance = self.aside.among(&[1, 1, 1, 2, 3]);
-            self.play_pump(scenario::PUMP_TILT, LONGEST_BUFFER, allowance);
+            let lines = self.play_pump(scenario::PUMP_TILT, LONGEST_BUFFER, allowance);
+            self.ask_down_of_pump(&lines);
         }
     }
 
@@ -304,65 +318,6 @@ impl Scene<'_> {
         let choices = [scenario::INC, scenario::INC, scenario::INC, scenario::COUNTER, scenario::RESET_COUNTER];
         let opcode = self.random.among(&choices);
         self.play(opcode, &[]);
-    }
-
-    fn query(&mut self) {
-        let first = i64::from(scenario::PRESSED_BY_CODE);
-        let opcode = match self.random.below(5) {
-            0 => scenario::PRESSED_BY_NAME,
-            _ => self.random.between(first, i64::from(scenario::STANDS)) as u8,
-        };
-        let pad = if self.random.chance(95) { self.traffic.pad(self.random) } else { self.random.below(6) as u8 };
-        let mut payload = vec![pad];
-        match opcode {
-            scenario::STANDS => (),
-            scenario::PRESSED_BY_NAME | scenario::BUTTON_BY_NAME => payload.push(self.asked_name(1, 19)),
-            scenario::VALUE_BY_NAME | scenario::AXIS_BY_NAME => payload.push(self.asked_name(33, 40)),
-            scenario::CODE_OF_NAME => payload.push(self.asked_name(1, 40)),
-            _ => {
-                let code = self.traffic.asked_code(self.random, pad);
-                put(&mut payload, u64::from(code), 4);
-            }
-        }
-        self.play(opcode, &payload);
-        if opcode == scenario::BUTTON_BY_CODE {
-            self.play(scenario::HELD_SINCE, &payload);
-        }
-    }
-
-    /// Since when the button is held that an event is about. Of a damaged event it may be any pad and code.
-    fn ask_of_event(&mut self, bytes: &[u8]) {
-        if bytes.len() == event::SIZE && (event::PRESSED..=event::CHANGED).contains(&bytes[3]) {
-            self.ask_since(bytes[4], field32(bytes, 6));
-        }
-    }
-
-    fn ask_since(&mut self, pad: u8, code: u32) {
-        let mut payload = vec![pad];
-        put(&mut payload, u64::from(code), 4);
-        self.play(scenario::HELD_SINCE, &payload);
-    }
-
-    /// A dump, and for each of its buttons since when it is held, which the dump's lines do not tell.
-    fn dump(&mut self) {
-        let mut pad = 0;
-        for line in self.play(scenario::DUMP, &[]) {
-            let words: Vec<&str> = line.split(' ').collect();
-            match words[0] {
-                "DUMP" => pad = lines::pad_in(words[1]),
-                "B" => self.ask_since(pad, lines::code_in(words[1])),
-                _ => (),
-            }
-        }
-    }
-
-    /// A name between the two, a direction, or one at an edge of the table.
-    fn asked_name(&mut self, low: i64, high: i64) -> u8 {
-        match self.random.below(10) {
-            0 => self.random.among(&[0, 1, 19, 20, 31, names::UNKNOWN_AXIS, 33, 40, 41, 254, names::NO_NAME]),
-            1..=4 if low == 1 => self.random.between(16, 19) as u8,
-            _ => self.random.between(low, high) as u8,
-        }
     }
 }
 

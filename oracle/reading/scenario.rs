@@ -27,6 +27,8 @@ pub const THRESHOLD: u8 = 21;
 pub const STANDS: u8 = 22;
 pub const WAITING: u8 = 23;
 pub const DUMP: u8 = 24;
+pub const DOWN: u8 = 38;
+pub const LOWEST_PRESSED: u8 = 39;
 pub const PUMP_TILT: u8 = 40;
 pub const DEADZONE: u8 = 41;
 pub const HELD_SINCE: u8 = 42;
@@ -80,6 +82,9 @@ pub enum Operation<'a> {
     /// A query about a name on a pad, with its opcode.
     ByName(u8, u8, u8),
     Stands(u8),
+    /// What is down on a pad, W-213's.
+    Down(u8),
+    LowestPressed(u8),
     Waiting,
     Dump,
     /// The deadzone calculation alone; none of the three is NaN.
@@ -132,6 +137,8 @@ fn read_one(opcode: u8, payload: &[u8]) -> Option<Operation<'_>> {
             Operation::ByName(opcode, payload[0], payload[1])
         }
         (STANDS, 1) => Operation::Stands(payload[0]),
+        (DOWN, 1) => Operation::Down(payload[0]),
+        (LOWEST_PRESSED, 1) => Operation::LowestPressed(payload[0]),
         (WAITING, 0) => Operation::Waiting,
         (DUMP, 0) => Operation::Dump,
         (DEADZONE, 12) => return read_deadzone(payload),

@@ -1,6 +1,7 @@
 /* Plays the oracle's scenario form (oracle/README.md) on the hub through copperyarn.h, every call of it, and prints the answers: play FILE. Beside that it
- * checks of each call that a refusal leaves the hub as it was (but in new and the pump), and of each pump that it writes its events and no byte more. A hub
- * holds junk before `new`, and what a call reads stands in blocks of just its size, so that a memory checker sees a step beside them. */
+ * checks of each call that a refusal leaves the hub as it was (but in new and the pump), and that what is down is what its records tell; of each pump that it
+ * writes its events and no byte more. A hub holds junk before `new`, and what a call reads stands in blocks of just its size, so that a memory checker sees a
+ * step beside them. */
 #include "test.h"
 
 static copperyarn_hub hub, before;
@@ -172,6 +173,28 @@ static void axis(const char *word, copperyarn_axis_answer answer) {
         printf("%s %08" PRIx32 " %" PRIu64 " %" PRIu64 "\n", word, copperyarn_bits(answer.value), answer.counter, answer.stamp);
 }
 
+static void down(copperyarn_down_answer answer) {
+    if (answer.refusal != 0)
+        refused(answer.refusal);
+    else
+        printf("DOWN %d %d\n", answer.count, answer.axis);
+}
+
+/* Counts anew, over a pad's records, what the hub says is down. */
+static void check_down(uint8_t pad) {
+    copperyarn_down_answer counted = {0, 0, false}, told = copperyarn_down(&hub, pad);
+    copperyarn_number_answer lowest = {0, false, 0}, code = copperyarn_lowest_pressed(&hub, pad);
+    for (size_t i = 52u * pad; i < 52u * pad + 52; i++) {
+        if (!hub.hasbutton[i] || !copperyarn_is_pressed_by_code(&hub, pad, hub.codes[i]).is) continue;
+        if (!lowest.known || hub.codes[i] < lowest.number) lowest.number = hub.codes[i];
+        lowest.known = true;
+        counted.count++;
+        counted.axis = counted.axis || hub.kinds[i] == COPPERYARN_ELEMENT_AXIS;
+    }
+    CHECK(told.refusal == 0 && told.count == counted.count && told.axis == counted.axis);
+    CHECK(code.refusal == 0 && code.known == lowest.known && code.number == lowest.number);
+}
+
 /* All that the pads' state holds. Of the hub's own fields it reads those that no query tells. */
 static void dump(void) {
     char word[16];
@@ -210,6 +233,8 @@ static void ask(uint8_t opcode, const uint8_t *bytes, size_t size) {
     case 20: code_of(copperyarn_code_of_name(&hub, pad, name)); break;
     case 21: value("THRESHOLD", copperyarn_deadzone_threshold(&hub, pad, code)); break;
     case 22: truth("STANDS", copperyarn_is_connected(&hub, pad)); break;
+    case 38: down(copperyarn_down(&hub, pad)); break;
+    case 39: code_of(copperyarn_lowest_pressed(&hub, pad)); break;
     case 42: since(copperyarn_button_data_by_code(&hub, pad, code)); break;
     default: CHECK(false);
     }
@@ -240,6 +265,7 @@ static void play(uint8_t opcode, const uint8_t *bytes, size_t size) {
     }
     if (opcode >= 8 && opcode <= 10) printf("COUNTER %" PRIu64 "\n", copperyarn_counter(&hub));
     if ((opcode >= 11 && opcode != 40) || opcode == 7) CHECK(same_hub(&hub, &before));
+    for (uint8_t pad = 0; standing && pad < hub.head.pads; pad++) check_down(pad);
 }
 
 int main(int argc, char **argv) {

@@ -226,6 +226,12 @@ static void queries(void) {
     CHECK(copperyarn_button_data_by_code(&hub, 4, SOUTH).refusal == number && copperyarn_axis_data_by_code(&hub, 1, STICK).refusal == number);
     CHECK(copperyarn_deadzone_threshold(&hub, 1, STICK).refusal == number && copperyarn_axis_or_btn_name(&hub, 1, STICK).refusal == number);
     CHECK(copperyarn_is_connected(&hub, 1).refusal == number && copperyarn_is_connected(&hub, 0).is);
+    for (int pad = 1; pad <= UINT8_MAX; pad++) {
+        copperyarn_down_answer down = copperyarn_down(&hub, (uint8_t)pad);
+        copperyarn_number_answer lowest = copperyarn_lowest_pressed(&hub, (uint8_t)pad);
+        CHECK(down.refusal == number && down.count == 0 && !down.axis && lowest.refusal == number && !lowest.known && lowest.number == 0);
+    }
+    CHECK(copperyarn_down(&hub, 0).count == 1 && !copperyarn_down(&hub, 0).axis && copperyarn_lowest_pressed(&hub, 0).number == SOUTH);
     CHECK(copperyarn_is_pressed(&hub, 0, COPPERYARN_BUTTON_SOUTH).is && copperyarn_is_pressed_by_code(&hub, 0, SOUTH).is);
     CHECK(copperyarn_value(&hub, 0, COPPERYARN_AXIS_LEFT_STICK_X).value == 1.0f && copperyarn_value_by_code(&hub, 0, STICK).value == 1.0f);
     CHECK(copperyarn_button_data(&hub, 0, COPPERYARN_BUTTON_SOUTH).stamp == 5 && copperyarn_button_data_by_code(&hub, 0, SOUTH).value == 1.0f);

@@ -21,6 +21,7 @@ pub struct Head {
     pub filters: bool,
     pub updates: bool,
     pub counter: u64,
+    pub down: [u64; 4],
     pub pads: u8,
     pub counts: [u8; 4],
     pub connected: [bool; 4],
@@ -29,6 +30,8 @@ pub struct Head {
     pub renamed: [bool; 4],
     pub newhats: [u8; 4],
     pub newconverts: [bool; 4],
+    pub held: [u8; 4],
+    pub heldaxes: [u8; 4],
     pub flags: [bool; 24],
     pub head: u8,
     pub waiting: u8,
@@ -61,6 +64,7 @@ impl Head {
         filters: false,
         updates: false,
         counter: 0,
+        down: [0; 4],
         pads: 0,
         counts: [0; 4],
         connected: [false; 4],
@@ -69,6 +73,8 @@ impl Head {
         renamed: [false; 4],
         newhats: [0; 4],
         newconverts: [false; 4],
+        held: [0; 4],
+        heldaxes: [0; 4],
         flags: [false; 24],
         head: 0,
         waiting: 0,
@@ -139,6 +145,13 @@ pub struct Axis {
     pub value: f32,
     pub stamp: u64,
     pub counter: u64,
+}
+
+#[repr(C)]
+pub struct Down {
+    pub refusal: u8,
+    pub count: u8,
+    pub axis: bool,
 }
 
 #[repr(C)]

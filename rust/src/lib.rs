@@ -48,7 +48,7 @@ pub use names::{Axis, AxisOrBtn, Button, Code, Name, PadId};
 pub use record::{RawRecord, RawType};
 pub use refusal::Refusal;
 pub use sheet::{Sheet, SheetBuilder};
-pub use state::{AxisData, ButtonData};
+pub use state::{AxisData, ButtonData, Down};
 pub use tilt::{apply_deadzone, Tilt};
 
 /// The programs of `docs/FROM-GILRS.md`, run as examples of this crate.

@@ -28,9 +28,9 @@ unsafe extern "C" {
         allowance: u16,
     ) -> Pumped;
     fn copperyarn_lent_update(
-        head: Head, codes: &Codes, hasbutton: &mut Bools, hasaxis: &mut Bools, values: &mut Values, times: &mut Times,
-        marks: &mut Marks, event: *const u8, event_size: usize,
-    ) -> u8;
+        head: Head, codes: &Codes, kinds: &Bytes, hasbutton: &mut Bools, hasaxis: &mut Bools, values: &mut Values,
+        times: &mut Times, marks: &mut Marks, event: *const u8, event_size: usize,
+    ) -> Done;
     fn copperyarn_lent_insert_event(
         head: Head, codes: &Codes, values: &mut Values, times: &mut Times, queuebytes: &mut QueueBytes,
         queuecodes: &mut QueueCodes, event: *const u8, event_size: usize,
@@ -80,6 +80,8 @@ unsafe extern "C" {
         head: Head, codes: &Codes, names: &Bytes, renames: &Bytes, pad: u8, name: u8,
     ) -> Number;
     safe fn copperyarn_lent_is_connected(head: Head, pad: u8) -> Truth;
+    safe fn copperyarn_lent_down(head: Head, pad: u8) -> Down;
+    safe fn copperyarn_lent_lowest_pressed(head: Head, codes: &Codes, pad: u8) -> Number;
     safe fn copperyarn_lent_waiting(head: Head) -> u8;
     safe fn copperyarn_deadzone(x: f32, y: f32, threshold: f32) -> TiltedPair;
 }
@@ -176,10 +178,13 @@ impl Fields {
     }
 
     pub(crate) fn update(&mut self, event: &[u8]) -> u8 {
-        let Fields { head, codes, hasbutton, hasaxis, values, times, marks, .. } = self;
+        let Fields { head, codes, kinds, hasbutton, hasaxis, values, times, marks, .. } = self;
         let (at, size) = (event.as_ptr(), event.len());
         // SAFETY: pointer and size are the event's.
-        unsafe { copperyarn_lent_update(*head, codes, hasbutton, hasaxis, values, times, marks, at, size) }
+        let done =
+            unsafe { copperyarn_lent_update(*head, codes, kinds, hasbutton, hasaxis, values, times, marks, at, size) };
+        self.head = done.head;
+        done.refusal
     }
 
     pub(crate) fn insert_event(&mut self, event: &[u8]) -> u8 {
@@ -271,6 +276,14 @@ impl Fields {
 
     pub(crate) fn is_connected(&self, pad: u8) -> Truth {
         copperyarn_lent_is_connected(self.head, pad)
+    }
+
+    pub(crate) fn down(&self, pad: u8) -> Down {
+        copperyarn_lent_down(self.head, pad)
+    }
+
+    pub(crate) fn lowest_pressed(&self, pad: u8) -> Number {
+        copperyarn_lent_lowest_pressed(self.head, &self.codes, pad)
     }
 
     pub(crate) fn waiting(&self) -> u8 {

@@ -4,7 +4,7 @@ use crate::hub::Hub;
 use crate::layout;
 use crate::names::{Axis, AxisOrBtn, Button, Code, Name, PadId};
 use crate::refusal::{judged, Refusal};
-use crate::state::{AxisData, ButtonData};
+use crate::state::{AxisData, ButtonData, Down};
 
 /// Pads.
 impl Hub {
@@ -16,6 +16,64 @@ impl Hub {
     /// The connected pads.
     pub fn connected_pads(&self) -> impl Iterator<Item = PadId> + '_ {
         (0..4).map(PadId).filter(|pad| self.is_connected(*pad) == Ok(true))
+    }
+}
+
+/// What is down right now. gilrs has no such calls. The hub keeps both as events move them and counts nothing here, so a panel may ask every frame.
+impl Hub {
+    /// How many of a pad's buttons are pressed, and whether an axis element reads pressed.
+    ///
+    /// It is what counting the pressed ones of [`buttons`](Hub::buttons) gives, behind every call and between any two steps of a pump. So a hat's direction
+    /// counts, though the sheet may not list it; a further press of a pressed button does not, and a repeat only where the button had no record. Values play no
+    /// part. Connected leaves nothing down; Disconnected, like a rename, leaves what is.
+    ///
+    /// ```
+    /// use copperyarn::{Axis, Button, Code, Down, Hub, RawRecord, Settings, Sheet};
+    ///
+    /// let (south, trigger, hat) = (Code::key(0x130), Code::abs(0x02), Code::abs(0x10));
+    /// let sheet = Sheet::builder()
+    ///     .button(south, Button::South)
+    ///     .axis(trigger, Button::LeftTrigger2, 0..=255)
+    ///     .axis(hat, Axis::DPadX, -1..=1);
+    /// let mut hub = Hub::new(Settings::default())?;
+    /// let pad = hub.register(&sheet.build())?;
+    /// assert_eq!(hub.down(pad)?, Down { count: 0, axis: false });
+    ///
+    /// let records = [RawRecord::pressed(pad, south, 1_000), RawRecord::axis(pad, hat, -1, 2_000)];
+    /// assert!(hub.feed(&records).all(|event| event.is_ok()));
+    /// assert_eq!(hub.down(pad)?, Down { count: 2, axis: false }); // South, and the hat's left
+    ///
+    /// let records = [RawRecord::axis(pad, trigger, 255, 3_000), RawRecord::disconnected(pad, 4_000)];
+    /// assert!(hub.feed(&records).all(|event| event.is_ok()));
+    /// assert_eq!(hub.down(pad)?, Down { count: 3, axis: true });
+    ///
+    /// assert!(hub.feed(&[RawRecord::connected(pad, 5_000)]).all(|event| event.is_ok()));
+    /// assert_eq!(hub.down(pad)?, Down { count: 0, axis: false });
+    /// # Ok::<(), copperyarn::Refusal>(())
+    /// ```
+    pub fn down(&self, pad: PadId) -> Result<Down, Refusal> {
+        let layout::Down { refusal, count, axis } = self.fields().down(pad.0);
+        judged(refusal)?;
+        Ok(Down { count, axis })
+    }
+
+    /// The lowest code of a pad that reads pressed; none exactly where [`down`](Hub::down) counts none.
+    ///
+    /// ```
+    /// use copperyarn::{Button, Code, Event, EventType, Hub, Settings, Sheet};
+    ///
+    /// let (south, east) = (Code::key(0x130), Code::key(0x131));
+    /// let mut hub = Hub::new(Settings::default())?;
+    /// let pad = hub.register(&Sheet::builder().button(south, Button::South).button(east, Button::East).build())?;
+    /// assert_eq!(hub.lowest_pressed(pad)?, None);
+    /// hub.update(&Event::new(pad, EventType::ButtonPressed(Button::DPadUp, Code::DPAD_UP), 1_000))?;
+    /// assert_eq!(hub.lowest_pressed(pad)?, Some(Code::DPAD_UP));
+    /// hub.update(&Event::new(pad, EventType::ButtonPressed(Button::East, east), 2_000))?;
+    /// assert_eq!(hub.lowest_pressed(pad)?, Some(east));
+    /// # Ok::<(), copperyarn::Refusal>(())
+    /// ```
+    pub fn lowest_pressed(&self, pad: PadId) -> Result<Option<Code>, Refusal> {
+        Ok(known_number(self.fields().lowest_pressed(pad.0))?.map(Code))
     }
 }
 

@@ -73,6 +73,15 @@ impl ButtonData {
     }
 }
 
+/// What is down on a pad, as [`Hub::down`](crate::Hub::down) tells it.
+#[derive(Clone, Copy, Debug, Eq, Hash, PartialEq)]
+pub struct Down {
+    /// How many of its buttons' records are pressed, 52 at most: of the sheet's elements, and of the four directions where it does not list them.
+    pub count: u8,
+    /// Whether an axis element's record is among them: a trigger's, or that of any other axis that an event pressed.
+    pub axis: bool,
+}
+
 /// An axis's record.
 #[derive(Clone, Copy, Debug, PartialEq)]
 pub struct AxisData {

@@ -34,7 +34,7 @@ fn the_structs_are_the_librarys() {
     theirs.extend(structs(&answers));
     let mut ours = structs(&ours);
     assert!(ours.remove("Fields").is_some());
-    assert_eq!(ours.len(), 13);
+    assert_eq!(ours.len(), 14);
     assert_eq!(ours, theirs);
 }
 
@@ -84,6 +84,6 @@ fn the_declarations_are_the_librarys() {
     for file in sources("../crates/copperyarn/src") {
         theirs.extend(exports(&text(&file), "\n    ensures"));
     }
-    assert_eq!(ours.len(), 24);
+    assert_eq!(ours.len(), 26);
     assert_eq!(ours, theirs);
 }

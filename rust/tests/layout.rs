@@ -4,30 +4,34 @@ use copperyarn::layout::*;
 use std::mem::{align_of, offset_of, size_of};
 
 #[test]
-fn the_head_has_80_bytes() {
-    assert_eq!((size_of::<Head>(), align_of::<Head>()), (80, 8));
+fn the_head_has_120_bytes() {
+    assert_eq!((size_of::<Head>(), align_of::<Head>()), (120, 8));
     assert_eq!(offset_of!(Head, pressed), 0);
     assert_eq!(offset_of!(Head, released), 4);
     assert_eq!(offset_of!(Head, reversed), 8);
     assert_eq!(offset_of!(Head, filters), 9);
     assert_eq!(offset_of!(Head, updates), 10);
     assert_eq!(offset_of!(Head, counter), 16);
-    assert_eq!(offset_of!(Head, pads), 24);
-    assert_eq!(offset_of!(Head, counts), 25);
-    assert_eq!(offset_of!(Head, connected), 29);
-    assert_eq!(offset_of!(Head, hats), 33);
-    assert_eq!(offset_of!(Head, converts), 37);
-    assert_eq!(offset_of!(Head, renamed), 41);
-    assert_eq!(offset_of!(Head, newhats), 45);
-    assert_eq!(offset_of!(Head, newconverts), 49);
-    assert_eq!(offset_of!(Head, flags), 53);
-    assert_eq!(offset_of!(Head, head), 77);
-    assert_eq!(offset_of!(Head, waiting), 78);
+    assert_eq!(offset_of!(Head, down), 24);
+    assert_eq!(offset_of!(Head, pads), 56);
+    assert_eq!(offset_of!(Head, counts), 57);
+    assert_eq!(offset_of!(Head, connected), 61);
+    assert_eq!(offset_of!(Head, hats), 65);
+    assert_eq!(offset_of!(Head, converts), 69);
+    assert_eq!(offset_of!(Head, renamed), 73);
+    assert_eq!(offset_of!(Head, newhats), 77);
+    assert_eq!(offset_of!(Head, newconverts), 81);
+    assert_eq!(offset_of!(Head, held), 85);
+    assert_eq!(offset_of!(Head, heldaxes), 89);
+    assert_eq!(offset_of!(Head, flags), 93);
+    assert_eq!(offset_of!(Head, head), 117);
+    assert_eq!(offset_of!(Head, waiting), 118);
 }
 
 #[test]
 fn the_answers_have_their_sizes() {
     assert_eq!((size_of::<Pad>(), size_of::<Truth>(), size_of::<Due>()), (2, 2, 2));
+    assert_eq!((size_of::<Down>(), offset_of!(Down, count), offset_of!(Down, axis)), (3, 1, 2));
     assert_eq!((size_of::<Value>(), offset_of!(Value, value)), (8, 4));
     assert_eq!((size_of::<Number>(), offset_of!(Number, number)), (8, 4));
     assert_eq!((size_of::<Button>(), offset_of!(Button, value), offset_of!(Button, stamp)), (32, 4, 8));
@@ -40,13 +44,13 @@ fn the_answers_have_their_sizes() {
 
 #[test]
 fn the_changed_head_comes_first() {
-    assert_eq!((size_of::<Done>(), offset_of!(Done, refusal)), (88, 80));
-    assert_eq!((size_of::<Registered>(), offset_of!(Registered, pad)), (88, 80));
-    assert_eq!((size_of::<Pumped>(), offset_of!(Pumped, report)), (112, 80));
+    assert_eq!((size_of::<Done>(), offset_of!(Done, refusal)), (128, 120));
+    assert_eq!((size_of::<Registered>(), offset_of!(Registered, pad)), (128, 120));
+    assert_eq!((size_of::<Pumped>(), offset_of!(Pumped, report)), (152, 120));
 }
 
 #[test]
 fn a_hub_is_some_16_kilobytes_behind_one_pointer() {
-    assert_eq!(size_of::<Fields>(), 16_344);
+    assert_eq!(size_of::<Fields>(), 16_384);
     assert_eq!(size_of::<copperyarn::Hub>(), size_of::<usize>());
 }

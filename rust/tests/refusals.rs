@@ -138,6 +138,9 @@ fn repeats_and_queries_are_judged() {
     assert_eq!(number(&mut hub, |hub| hub.axis_data_by_name(PAD, Name::NONE)), Some(16));
     assert_eq!(number(&mut hub, |hub| hub.is_connected(PadId(255))), Some(6));
     assert_eq!(number(&mut hub, |hub| hub.buttons(PadId(1)).map(drop)), Some(6));
+    for pad in (1..=255).map(PadId) {
+        assert_eq!((hub.down(pad), hub.lowest_pressed(pad)), (Err(Refusal::NoPad), Err(Refusal::NoPad)));
+    }
 }
 
 #[test]

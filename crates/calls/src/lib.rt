@@ -35,30 +35,38 @@ fn event_place(codes: &[u32; 208], p: u8, code: u32, formcode: u32, place: usize
 }
 
 // A form that is well made: refused, or done. The place of the form's code is the event's too, but for kinds 6 to 8, which carry no code.
-fn update_form(
+fn update_form<'s>(
     head: Head,
-    codes: &[u32; 208],
+    codes: &'s [u32; 208],
+    kinds: &'s [u8; 208],
     hasbutton: &mut [bool; 208],
     hasaxis: &mut [bool; 208],
     values: &mut Values,
     times: &mut Times,
     marks: &mut Marks,
     f: EventForm,
-) -> Answer
-    ensures { λ r. ⌜ ((kinds names renames queuebytes queuecodes : List ℕ) →
-        answered head (listed (now (codes .entry)) kinds names renames)
-        (columns (now (hasbutton .exit)) (now (hasaxis .exit)) (now (values .exit)) (now (times .exit)) (now (marks .exit)) queuebytes queuecodes) r
-        ≡ updateForm (hubOf head (listed (now (codes .entry)) kinds names renames)
+) -> AnsweredHead
+    ensures { λ r. ⌜ ((names renames queuebytes queuecodes : List ℕ) →
+        answered (r .head) (listed (now (codes .entry)) (now (kinds .entry)) names renames)
+        (columns (now (hasbutton .exit)) (now (hasaxis .exit)) (now (values .exit)) (now (times .exit)) (now (marks .exit)) queuebytes queuecodes) (r .answer)
+        ≡ updateForm (hubOf head (listed (now (codes .entry)) (now (kinds .entry)) names renames)
         (columns (now (hasbutton .entry)) (now (hasaxis .entry)) (now (values .entry)) (now (times .entry)) (now (marks .entry)) queuebytes queuecodes)) f) ⌝ }
 {
+    let mut h = head;
     let place = pad::place_of(codes, f.pad, f.code);
-    let refusal = refusals::form_refusal(f, head.pads, place);
+    let refusal = refusals::form_refusal(f, h.pads, place);
     if refusal != 0 {
-        return Answer::Refused(refusal);
+        return AnsweredHead {
+            head: h,
+            answer: Answer::Refused(refusal),
+        };
     }
     let e = events::form_event(f);
     let k = event_place(codes, e.pad, events::code_of(e), f.code, place);
-    cells::settle(
+    let mut down = h.down;
+    let mut held = h.held;
+    let mut heldaxes = h.heldaxes;
+    let change = cells::settle(
         hasbutton,
         hasaxis,
         values,
@@ -66,34 +74,55 @@ fn update_form(
         marks,
         true,
         e,
-        head.counter,
+        h.counter,
         k,
     );
-    Answer::Done
+    down::follow(kinds, &mut down, &mut held, &mut heldaxes, k, change);
+    h.down = down;
+    h.held = held;
+    h.heldaxes = heldaxes;
+    AnsweredHead {
+        head: h,
+        answer: Answer::Done,
+    }
 }
 
-// WithQueued an event to the state.
-pub fn update(
+// Gives an event to the state.
+pub fn update<'s>(
     head: Head,
-    codes: &[u32; 208],
+    codes: &'s [u32; 208],
+    kinds: &'s [u8; 208],
     hasbutton: &mut [bool; 208],
     hasaxis: &mut [bool; 208],
     values: &mut Values,
     times: &mut Times,
     marks: &mut Marks,
     event: &[u8],
-) -> Answer
-    ensures { λ r. ⌜ ((kinds names renames queuebytes queuecodes : List ℕ) →
-        answered head (listed (now (codes .entry)) kinds names renames)
-        (columns (now (hasbutton .exit)) (now (hasaxis .exit)) (now (values .exit)) (now (times .exit)) (now (marks .exit)) queuebytes queuecodes) r
-        ≡ updateOf (hubOf head (listed (now (codes .entry)) kinds names renames)
+) -> AnsweredHead
+    ensures { λ r. ⌜ ((names renames queuebytes queuecodes : List ℕ) →
+        answered (r .head) (listed (now (codes .entry)) (now (kinds .entry)) names renames)
+        (columns (now (hasbutton .exit)) (now (hasaxis .exit)) (now (values .exit)) (now (times .exit)) (now (marks .exit)) queuebytes queuecodes) (r .answer)
+        ≡ updateOf (hubOf head (listed (now (codes .entry)) (now (kinds .entry)) names renames)
         (columns (now (hasbutton .entry)) (now (hasaxis .entry)) (now (values .entry)) (now (times .entry)) (now (marks .entry)) queuebytes queuecodes))
         (now (event .entry))) ⌝ }
 {
     let read = wire::read_event(event);
     match read {
-        EventRead::Form(f) => update_form(head, codes, hasbutton, hasaxis, values, times, marks, f),
-        EventRead::Malformed => Answer::Refused(MALFORMED),
+        EventRead::Form(f) => update_form(
+            head,
+            codes,
+            kinds,
+            hasbutton,
+            hasaxis,
+            values,
+            times,
+            marks,
+            f,
+        ),
+        EventRead::Malformed => AnsweredHead {
+            head: head,
+            answer: Answer::Refused(MALFORMED),
+        },
     }
 }
 

@@ -78,7 +78,8 @@ pub fn held_in<'a>(
     )
 }
 
-// The state after a kept event whose code stands at k: with updates on, the record that the event writes, and the mark that it stands.
+// The state after a kept event whose code stands at k: with updates on, the record that the event writes, and the mark that it stands; and how the place's button
+// record reads with it. What follows from that is told by `down`, so that this stays small enough to be made part of the pump's loop.
 pub fn settle(
     hasbutton: &mut [bool; 208],
     hasaxis: &mut [bool; 208],
@@ -89,31 +90,28 @@ pub fn settle(
     e: Event,
     counter: u64,
     k: usize,
-)
+) -> u8
     requires { ⌜ k ≤ nowhere ⌝ }
-    ensures { λ _. ⌜ Settled (now (hasbutton .entry)) (now (hasaxis .entry)) (now (values .entry)) (now (times .entry)) (now (marks .entry)) k on e counter
+    ensures { λ r. ⌜ Settled (now (hasbutton .entry)) (now (hasaxis .entry)) (now (values .entry)) (now (times .entry)) (now (marks .entry)) k on e counter r
         (now (hasbutton .exit)) (now (hasaxis .exit)) (now (values .exit)) (now (times .exit)) (now (marks .exit)) ⌝ }
 {
     if !on {
-        return;
+        return down::STILL;
     }
     if state::writes_button(e) {
         let known = pad::bool_at(hasbutton, k);
         let b = columns::button_at(values, times, marks, k);
-        columns::put_button(
-            values,
-            times,
-            marks,
-            k,
-            state::button_after(e, known, b, counter),
-        );
+        let was = state::read_pressed(known, b);
+        let after = state::button_after(e, known, b, counter);
+        columns::put_button(values, times, marks, k, after);
         pad::mark(hasbutton, k, true);
-        return;
+        return down::change(was, after.pressed);
     }
     if !state::writes_axis(e) {
-        return;
+        return down::STILL;
     }
     let a = columns::axis_at(values, times, k);
     columns::put_axis(values, times, k, state::axis_after(e, a, counter));
     pad::mark(hasaxis, k, true);
+    down::STILL
 }

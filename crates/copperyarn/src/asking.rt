@@ -5,14 +5,15 @@ ghost use mathlib.Core.List.{List};
 ghost use Prim.Native.Nat.{ℕ};
 ghost use lib.Ieee.{Float};
 ghost use Rattle.rules.specs.Queries.{pressedByCode, pressedByName, connectedOf, valueByCode, valueByName, thresholdByCode};
-ghost use Rattle.rules.specs.Queries.{buttonByCode, buttonByName, axisByCode, axisByName, nameByCode, codeByName};
+ghost use Rattle.rules.specs.Queries.{buttonByCode, buttonByName, axisByCode, axisByName, nameByCode, codeByName, downOf, lowestPressed};
 ghost use Rattle.hub.specs.Lent.{Listed, Columns, listed, columns, hubOf};
-ghost use Rattle.crossing.specs.Crossing.{truthOf, valueOf, numberOf, buttonOf, axisOf};
+ghost use Rattle.crossing.specs.Crossing.{truthOf, valueOf, numberOf, buttonOf, axisOf, downOf as crossedDown};
 use columns::Marks;
 use columns::Times;
 use columns::Values;
 use crossing::Axis;
 use crossing::Button;
+use crossing::Down;
 use crossing::Number;
 use crossing::Truth;
 use crossing::Value;
@@ -285,6 +286,23 @@ pub extern "C" fn copperyarn_lent_code_of_name<'s>(
         (columns hasbutton hasaxis values times marks queuebytes queuecodes)) p name)) ⌝ }
 {
     crossing::number_of(queries::code_of_name(head, codes, names, renames, p, name))
+}
+
+// How many button records of a pad are pressed, and whether an axis element's is. Refuses 6.
+#[no_mangle]
+pub extern "C" fn copperyarn_lent_down(head: Head, p: u8) -> Down
+    ensures { λ r. ⌜ ((s : Listed) (t : Columns) → r ≡ crossedDown (downOf (hubOf head s t) p)) ⌝ }
+{
+    crossing::down_of(queries::down(head, p))
+}
+
+// The lowest code of a pad whose button record is pressed; not known where none is. Refuses 6.
+#[no_mangle]
+pub extern "C" fn copperyarn_lent_lowest_pressed(head: Head, codes: &[u32; 208], p: u8) -> Number
+    ensures { λ r. ⌜ ((kinds names renames : List ℕ) (t : Columns) →
+        r ≡ numberOf (lowestPressed (hubOf head (listed (now (codes .entry)) kinds names renames) t) p)) ⌝ }
+{
+    crossing::number_of(queries::lowest_pressed(head, codes, p))
 }
 
 // Whether a pad is connected. Refuses 6.

@@ -1,5 +1,5 @@
 // The hub for programs in C and Rust, every public call of it: they hold the head and the arrays, and lend what a call reads or writes; nothing of the hub is
-// copied but the head's 80 bytes. `include/copperyarn.h` and `rust/` put one struct in front, whose fields they lend. Each export is proved to be the call: its
+// copied but the head's 120 bytes. `include/copperyarn.h` and `rust/` put one struct in front, whose fields they lend. Each export is proved to be the call: its
 // contract is the law book's equation at the hub that head and arrays stand for, with the answer in the plain struct that crosses (`crossing`). It asks nothing.
 mod asking;
 
@@ -211,35 +211,43 @@ pub extern "C" fn copperyarn_deadzone(x: f32, y: f32, threshold: f32) -> TiltedP
     crossing::tilted_of(scale::apply_deadzone(x, y, threshold))
 }
 
-// WithQueued an event's bytes to the state: the refusal's number, 0 where it was done. Refuses 8, 6, 9, 11, 12.
+// Gives an event's bytes to the state: the head after it, and the refusal's number, 0 where it was done. Refuses 8, 6, 9, 11, 12.
 #[no_mangle]
-pub extern "C" fn copperyarn_lent_update(
+pub extern "C" fn copperyarn_lent_update<'s>(
     head: Head,
-    codes: &[u32; 208],
+    codes: &'s [u32; 208],
+    kinds: &'s [u8; 208],
     hasbutton: &mut [bool; 208],
     hasaxis: &mut [bool; 208],
     values: &mut Values,
     times: &mut Times,
     marks: &mut Marks,
     event: &[u8],
-) -> u8
-    ensures { λ r. ⌜ ((kinds names renames queuebytes queuecodes : List ℕ) →
-        done head (listed (now (codes .entry)) kinds names renames)
-        (columns (now (hasbutton .exit)) (now (hasaxis .exit)) (now (values .exit)) (now (times .exit)) (now (marks .exit)) queuebytes queuecodes) r
-        ≡ doneOf (updateOf (hubOf head (listed (now (codes .entry)) kinds names renames)
+) -> Done
+    ensures { λ r. ⌜ ((names renames queuebytes queuecodes : List ℕ) →
+        done (r .head) (listed (now (codes .entry)) (now (kinds .entry)) names renames)
+        (columns (now (hasbutton .exit)) (now (hasaxis .exit)) (now (values .exit)) (now (times .exit)) (now (marks .exit)) queuebytes queuecodes) (r .refusal)
+        ≡ doneOf (updateOf (hubOf head (listed (now (codes .entry)) (now (kinds .entry)) names renames)
         (columns (now (hasbutton .entry)) (now (hasaxis .entry)) (now (values .entry)) (now (times .entry)) (now (marks .entry)) queuebytes queuecodes))
         (now (event .entry)))) ⌝ }
 {
-    crossing::refusal_of(calls::update(
+    let r = calls::update(
         head,
         codes,
+        kinds,
         hasbutton,
         hasaxis,
         values,
         times,
         marks,
         event,
-    ))
+    );
+    let head = r.head;
+    let answer = r.answer;
+    Done {
+        head,
+        refusal: crossing::refusal_of(answer),
+    }
 }
 
 // Lets an event's bytes wait. Refuses 8, 6, 9, 11, 12, 13.

@@ -27,9 +27,12 @@ use Rattle.rules.specs.declared.AxisAnswer.{AxisAnswer}
 use Rattle.rules.specs.declared.AxisAnswer.the-variants as axisAnswer
 use Rattle.rules.specs.declared.NumberAnswer.{NumberAnswer}
 use Rattle.rules.specs.declared.NumberAnswer.the-variants as numberAnswer
+use Rattle.rules.specs.declared.DownAnswer.{DownAnswer}
+use Rattle.rules.specs.declared.DownAnswer.the-variants as downAnswer
 use Rattle.rules.specs.Events.{eventBytes}
 use Rattle.rules.specs.Pump.{drained, full, paused}
 use Rattle.rules.specs.Answers.{Said, served, bit, answerSays, registerSays, pumpSays, tiltSays, repeatSays, truthSays, valueSays, buttonSays, axisSays, numberSays}
+use Rattle.rules.specs.Answers.{downSays}
 use Rattle.numbers.specs.Constants.{zero32}
 use Rattle.numbers.specs.declared.Tilt.{Tilt}
 use Rattle.numbers.specs.declared.Tilted.{Tilted}
@@ -39,6 +42,7 @@ use Rattle.crossing.specs.declared.Value.{Value}
 use Rattle.crossing.specs.declared.Number.{Number}
 use Rattle.crossing.specs.declared.Button.{Button}
 use Rattle.crossing.specs.declared.Axis.{Axis}
+use Rattle.crossing.specs.declared.Down.{Down}
 use Rattle.crossing.specs.declared.Report.{Report}
 use Rattle.crossing.specs.declared.TiltedPair.{TiltedPair}
 use Rattle.crossing.specs.declared.Due.{Due}
@@ -108,6 +112,10 @@ abbrev pub axisOf : AxisAnswer → Axis
 axisOf (axisAnswer.Data a) = knownAxis a
 axisOf axisAnswer.Absent = noAxis 0
 axisOf (axisAnswer.Refused number) = noAxis number
+
+abbrev pub downOf : DownAnswer → Down
+downOf (downAnswer.Down count axis) = record { refusal = 0; count = count; axis = axis }
+downOf (downAnswer.Refused number) = record { refusal = number; count = 0; axis = false }
 
 abbrev pub reportBy : ℕ → ℕ → ℕ → ℕ → ℕ → ℕ → Report
 reportBy refusal reason tilt place events steps =
@@ -180,6 +188,12 @@ pad-says p = refl
 
 pub truth-says : (b : Bool) → said 0 true (bit (truthOf (truthAnswer.Is b) .is) ∷ []) ≡ truthSays (truthAnswer.Is b)
 truth-says b = refl
+
+pub down-says :
+    (count : ℕ) (axis : Bool)
+    → (let d = downOf (downAnswer.Down count axis) in said 0 true (d .count ∷ bit (d .axis) ∷ []))
+    ≡ downSays (downAnswer.Down count axis)
+down-says count axis = refl
 
 -- a refused pump has its place, events and steps too
 abbrev pub reportSays : Report → Said

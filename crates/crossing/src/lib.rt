@@ -3,7 +3,7 @@
 // `*Says` says is closed by computation there.
 ghost use mathlib.Core.Path.{_≡_};
 ghost use Rattle.crossing.specs.Crossing.{refusalOf, padOf, truthOf, valueOf, numberOf};
-ghost use Rattle.crossing.specs.Crossing.{knownButton, noButton, buttonOf, knownAxis, noAxis, axisOf, reportBy, reportOf, tiltedPairOf, dueOf, dueBytes};
+ghost use Rattle.crossing.specs.Crossing.{knownButton, noButton, buttonOf, knownAxis, noAxis, axisOf, reportBy, reportOf, tiltedPairOf, dueOf, dueBytes, downOf};
 ghost use Rattle.rules.specs.Answers.{tiltSays};
 use hub::Head;
 use numbers::Tilt;
@@ -13,6 +13,7 @@ use rules::AxisAnswer;
 use rules::AxisData;
 use rules::ButtonAnswer;
 use rules::ButtonData;
+use rules::DownAnswer;
 use rules::NumberAnswer;
 use rules::PumpAnswer;
 use rules::RegisterAnswer;
@@ -85,6 +86,14 @@ pub struct Axis {
     pub value: f32,
     pub stamp: u64,
     pub counter: u64,
+}
+
+// What is down on a pad: how many of its button records are pressed, and whether an axis element's is.
+#[repr(C)]
+pub struct Down {
+    pub refusal: u8,
+    pub count: u8,
+    pub axis: bool,
 }
 
 // What a pump did: why it stopped (0 where it was refused), which of three the deadzone calculation was for its last axis event that met a threshold, the place in
@@ -294,6 +303,24 @@ pub fn axis_of(answer: AxisAnswer) -> Axis
     }
 }
 
+// What is down on a pad.
+pub fn down_of(answer: DownAnswer) -> Down
+    ensures { λ r. ⌜ r ≡ downOf answer ⌝ }
+{
+    match answer {
+        DownAnswer::Down(count, axis) => Down {
+            refusal: 0,
+            count: count,
+            axis: axis,
+        },
+        DownAnswer::Refused(number) => Down {
+            refusal: number,
+            count: 0,
+            axis: false,
+        },
+    }
+}
+
 // The number of a tilt.
 fn tilt_number(tilt: Tilt) -> u8
     ensures { λ r. ⌜ r ≡ tiltSays tilt ⌝ }
@@ -315,14 +342,9 @@ pub fn report_of(answer: PumpAnswer, tilt: Tilt) -> Report
         PumpAnswer::Drained(place, events, steps) => reported(0, DRAINED, t, place, events, steps),
         PumpAnswer::Full(place, events, steps) => reported(0, FULL, t, place, events, steps),
         PumpAnswer::Paused(place, events, steps) => reported(0, PAUSED, t, place, events, steps),
-        PumpAnswer::Refused(number, place, events, steps) => reported(
-            number,
-            0,
-            t,
-            place,
-            events,
-            steps,
-        ),
+        PumpAnswer::Refused(number, place, events, steps) => {
+            reported(number, 0, t, place, events, steps)
+        }
     }
 }
 

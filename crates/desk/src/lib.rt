@@ -43,6 +43,7 @@ fn fresh(pressed: f32, released: f32, reversed: bool, filters: bool, updates: bo
         filters: filters,
         updates: updates,
         counter: 0,
+        down: [0u64; 4],
         pads: 0,
         counts: [0u8; 4],
         connected: [false; 4],
@@ -51,6 +52,8 @@ fn fresh(pressed: f32, released: f32, reversed: bool, filters: bool, updates: bo
         renamed: [false; 4],
         newhats: [0u8; 4],
         newconverts: [false; 4],
+        held: [0u8; 4],
+        heldaxes: [0u8; 4],
         flags: [false; 24],
         head: 0,
         waiting: 0,
@@ -125,6 +128,13 @@ fn with_pad(head: Head, p: u8, hats: u8, count: u8, converts: bool) -> Head
     ensures { λ r. ⌜ r ≡ registeredHead head p hats count converts ⌝ }
 {
     let mut h = head;
+    let mut down = h.down;
+    let mut held = h.held;
+    let mut heldaxes = h.heldaxes;
+    down::clear(&mut down, &mut held, &mut heldaxes, p);
+    h.down = down;
+    h.held = held;
+    h.heldaxes = heldaxes;
     h.pads = p + 1;
     set_pad(&mut h.counts, p, count);
     pad::mark_pad(&mut h.connected, p, true);

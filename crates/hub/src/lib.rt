@@ -5,7 +5,7 @@ use rules::Answer;
 use rules::PumpAnswer;
 use rules::RegisterAnswer;
 
-// What of a hub is small: its settings, the counter, what it keeps of each pad, the deadzone flags, and where the queue stands.
+// What of a hub is small: its settings, the counter, what it keeps of each pad and what of it is down, the deadzone flags, and where the queue stands.
 #[repr(C)]
 pub struct Head {
     pub pressed: f32,
@@ -14,6 +14,7 @@ pub struct Head {
     pub filters: bool,
     pub updates: bool,
     pub counter: u64,
+    pub down: [u64; 4],
     pub pads: u8,
     pub counts: [u8; 4],
     pub connected: [bool; 4],
@@ -22,6 +23,8 @@ pub struct Head {
     pub renamed: [bool; 4],
     pub newhats: [u8; 4],
     pub newconverts: [bool; 4],
+    pub held: [u8; 4],
+    pub heldaxes: [u8; 4],
     pub flags: [bool; 24],
     pub head: u8,
     pub waiting: u8,

@@ -27,6 +27,7 @@ use Rattle.rules.specs.Hub.{viewAt, viewOf, hatPlaceOf, partnerPlaceOf, convert
 use Rattle.rules.specs.Setters.{withSheet, withRows, withNames, withMarks, withState, withFlags}
 use Rattle.rules.specs.Calls.{idleHub}
 use Rattle.rules.specs.Step.{connectedAfter, renamedAfter, marksCleared, flagsSet, filteredIn}
+use Rattle.down.specs.Down.{Joined, joins-not}
 use Rattle.gather.specs.declared.EventPlaces.{EventPlaces}
 use Rattle.gather.specs.EventPlaces.{EventPlacesAre, eventPlacesAt, placeMarksOf, viewBy}
 use Rattle.cells.specs.Seen.{storedAt, heldAt}
@@ -53,6 +54,10 @@ no-marks connected renamed hasbutton hasaxis flags p kind low =
     let stays : eqb kind kindConnected ≡ false = ne-eqb kind kindConnected (λ (e : kind ≡ kindConnected). omega arith) in
     let left : eqb kind kindDisconnected ≡ false = ne-eqb kind kindDisconnected (λ (e : kind ≡ kindDisconnected). omega arith) in
     record { connected-is = rw (stays, left); renamed-is = rw stays; hasbutton-is = rw stays; hasaxis-is = rw stays; flags-is = rw stays }
+
+-- and what is down is the same
+pub no-join : (down held heldaxes : List ℕ) (p kind : ℕ) → kind < kindConnected → Joined down held heldaxes p kind down held heldaxes
+no-join down held heldaxes p kind low = joins-not down held heldaxes p kind (λ (e : kind ≡ kindConnected). omega arith)
 
 -- ---- the filters
 

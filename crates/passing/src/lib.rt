@@ -1,5 +1,6 @@
 // A turn's gates: the marks of a record that joins or leaves, and what a taken event's passing changes, behind one test each, so that only what is asked for is
 // read. Each answer is the law book's, as if all had been gathered. The gates stand inside functions that are lent the arrays, not in the pump's loop.
+pub mod joining;
 mod lanes;
 
 ghost use mathlib.Core.Path.{_≡_};
@@ -19,7 +20,7 @@ ghost use Rattle.filters.specs.Lanes.{zonedValue, stickZonedOf};
 ghost use Rattle.filters.specs.Meets.{stickMetOf};
 ghost use Rattle.queueing.specs.Queued.{Pushed};
 ghost use Rattle.taking.specs.Taking.{givesOf};
-ghost use Rattle.passing.specs.Passing.{seenHub, directedAt, hatView, MarkedIs};
+ghost use Rattle.passing.specs.Passing.{seenHub, directedAt, hatView};
 ghost use Rattle.passing.specs.Sent.{SentIs};
 ghost use Rattle.passing.specs.Served.{TurnedIs, StickIs, ServedIs};
 use columns::Marks;
@@ -29,39 +30,10 @@ use columns::Times;
 use columns::Values;
 use numbers::Tilt;
 use rules::Event;
-use rules::FLAGS_PER_PAD;
 use rules::Flags;
-use rules::KIND_CONNECTED;
-use rules::PLACES_PER_PAD;
 use rules::Partner;
 use rules::View;
 use taking::Taken;
-
-// Connected and Disconnected alone set or take off marks.
-pub fn mark_joins(
-    connected: &mut [bool; 4],
-    renamed: &mut [bool; 4],
-    hasbutton: &mut [bool; 208],
-    hasaxis: &mut [bool; 208],
-    flags: &mut [bool; 24],
-    p: u8,
-    kind: u8,
-)
-    ensures { λ _. ⌜ MarkedIs (now (connected .entry)) (now (renamed .entry)) (now (hasbutton .entry)) (now (hasaxis .entry)) (now (flags .entry)) p kind
-        (now (connected .exit)) (now (renamed .exit)) (now (hasbutton .exit)) (now (hasaxis .exit)) (now (flags .exit)) ⌝ }
-{
-    if kind < KIND_CONNECTED {
-        return;
-    }
-    let q = choices::wide(p);
-    let marks = turn::marks_cleared(kind, PLACES_PER_PAD);
-    let runs = turn::marks_cleared(kind, FLAGS_PER_PAD);
-    turn::connect(connected, p, kind);
-    turn::forget(renamed, p, kind);
-    pad::clear(hasbutton, PLACES_PER_PAD * q, marks);
-    pad::clear(hasaxis, PLACES_PER_PAD * q, marks);
-    pad::clear_flags(flags, FLAGS_PER_PAD * q, runs);
-}
 
 // ---- a taken event served: the filters, the flags and the queue in one
 

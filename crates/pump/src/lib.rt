@@ -23,15 +23,21 @@ fn stepped(
     head: Head,
     connected: [bool; 4],
     renamed: [bool; 4],
+    down: [u64; 4],
+    held: [u8; 4],
+    heldaxes: [u8; 4],
     flags: [bool; 24],
     front: u8,
     waiting: u8,
 ) -> Head
-    ensures { λ r. ⌜ r ≡ steppedHead head connected renamed flags front waiting ⌝ }
+    ensures { λ r. ⌜ r ≡ steppedHead head connected renamed down held heldaxes flags front waiting ⌝ }
 {
     let mut h = head;
     h.connected = connected;
     h.renamed = renamed;
+    h.down = down;
+    h.held = held;
+    h.heldaxes = heldaxes;
     h.flags = flags;
     h.head = front;
     h.waiting = waiting;
@@ -84,6 +90,9 @@ pub fn pump<'s>(
     // what steps change of the head
     let mut connected = settings.connected;
     let mut renamed = settings.renamed;
+    let mut down = settings.down;
+    let mut held = settings.held;
+    let mut heldaxes = settings.heldaxes;
     let mut flags = settings.flags;
     let mut front = settings.head;
     let mut waiting = settings.waiting;
@@ -102,7 +111,17 @@ pub fn pump<'s>(
             let why = turn::stop(waiting, batch.len() - at, out.len() - filled, left);
             if 0 < why {
                 return PumpedHead {
-                    head: stepped(settings, connected, renamed, flags, front, waiting),
+                    head: stepped(
+                        settings,
+                        connected,
+                        renamed,
+                        down,
+                        held,
+                        heldaxes,
+                        flags,
+                        front,
+                        waiting,
+                    ),
                     answer: turn::stop_answer(why, at, filled / EVENT_SIZE, most - left),
                     tilt: tilt,
                 };
@@ -131,18 +150,31 @@ pub fn pump<'s>(
             );
             if 0 < taken.number {
                 return PumpedHead {
-                    head: stepped(settings, connected, renamed, flags, front, waiting),
+                    head: stepped(
+                        settings,
+                        connected,
+                        renamed,
+                        down,
+                        held,
+                        heldaxes,
+                        flags,
+                        front,
+                        waiting,
+                    ),
                     answer: PumpAnswer::Refused(taken.number, at, filled / EVENT_SIZE, most - left),
                     tilt: tilt,
                 };
             }
             // commit: the marks of a taken record, the ring, the place
-            passing::mark_joins(
+            passing::joining::mark_joins(
                 &mut connected,
                 &mut renamed,
                 hasbutton,
                 hasaxis,
                 &mut flags,
+                &mut down,
+                &mut held,
+                &mut heldaxes,
                 taken.pad,
                 taken.kind,
             );
@@ -179,7 +211,7 @@ pub fn pump<'s>(
         };
         // commit: the state, and the event's bytes
         let kept = sent.event;
-        cells::settle(
+        let change = cells::settle(
             hasbutton,
             hasaxis,
             values,
@@ -189,6 +221,14 @@ pub fn pump<'s>(
             kept,
             settings.counter,
             sent.place,
+        );
+        down::follow(
+            kinds,
+            &mut down,
+            &mut held,
+            &mut heldaxes,
+            sent.place,
+            change,
         );
         wire::write_event(&mut out[filled..], kept);
         filled = filled + EVENT_SIZE;

@@ -16,9 +16,9 @@ use Rattle.rules.specs.declared.Dispatched.{Dispatched}
 use Rattle.rules.specs.Names.{placesPerPad, flagsPerPad, queueRoom}
 use Rattle.rules.specs.Places.{placeOf, clearedOf, oneIf}
 use Rattle.rules.specs.Filters.{Filtered, keptOf}
-use Rattle.rules.specs.Setters.{withMarks, withState, withFlags, withQueue}
+use Rattle.rules.specs.Setters.{withMarks, withState, withDown, withFlags, withQueue}
 use Rattle.rules.specs.Hub.{frontOf, pressedAt, pastSlot, pastElement, pastButton}
-use Rattle.rules.specs.Step.{nextRecordOf, takenOf, recordGives, markedOf, connectedAfter, renamedAfter, marksCleared, headAfter, pushedOf, filteredIn, filteredHub, stepEvent, stepHub, updatedOf}
+use Rattle.rules.specs.Step.{nextRecordOf, takenOf, recordGives, markedOf, connectedAfter, renamedAfter, marksCleared, downCleared, headAfter, pushedOf, filteredIn, filteredHub, stepEvent, stepHub, updatedOf}
 use Rattle.rules.specs.Pump.{Progress, stepped, steppedBy, placeAfter, outAfter}
 use Rattle.rules.specs.Tilt.{metIn, stepMet, latest}
 use Rattle.gather.specs.declared.Found.{Found}
@@ -31,7 +31,7 @@ use Rattle.pump_laws.specs.Updates.{dropped-same}
 
 module _ (h : Hub) (r : RawRecord) where
   pub marked-is :
-      {p marks flags head waiting : ℕ} {connected renamed hasbutton hasaxis flagged : List Bool} →
+      {p marks flags head waiting : ℕ} {connected renamed hasbutton hasaxis flagged : List Bool} {down held heldaxes : List ℕ} →
       p ≡ r .pad →
       marks ≡ marksCleared (r .kind) placesPerPad →
       flags ≡ marksCleared (r .kind) flagsPerPad →
@@ -39,14 +39,17 @@ module _ (h : Hub) (r : RawRecord) where
       renamed ≡ renamedAfter (h .renamed) (r .pad) (r .kind) →
       hasbutton ≡ clearedOf (h .hasbutton) (placesPerPad * p) marks →
       hasaxis ≡ clearedOf (h .hasaxis) (placesPerPad * p) marks →
+      down ≡ downCleared (h .down) (r .pad) (r .kind) →
+      held ≡ downCleared (h .held) (r .pad) (r .kind) →
+      heldaxes ≡ downCleared (h .heldaxes) (r .pad) (r .kind) →
       flagged ≡ clearedOf (h .flags) (flagsPerPad * p) flags →
       head ≡ headAfter (h .head) (h .waiting) →
       waiting ≡ h .waiting - 1 →
       _≡_ {A = Hub}
-      (withQueue (withFlags (withState (withMarks h connected renamed) hasbutton (h .buttons) hasaxis (h .axes)) flagged) (h .queue) head waiting)
+      (withQueue (withFlags (withDown (withState (withMarks h connected renamed) hasbutton (h .buttons) hasaxis (h .axes)) down held heldaxes) flagged) (h .queue) head waiting)
       (markedOf h r)
   unfolding markedOf
-  marked-is ep em ef ec er et ev eg eh ew = rw (ew, eh, eg, ev, et, er, ec, ef, em, ep)
+  marked-is ep em ef ec er et ev ed el ex eg eh ew = rw (ew, eh, eg, ex, el, ed, ev, et, er, ec, ef, em, ep)
 
 -- ---- what is taken
 

@@ -9,8 +9,11 @@ use Rattle.rules.specs.declared.EventType.{EventType}
 use Rattle.rules.specs.declared.EventType.the-variants.{Pressed, Released, Repeated, Changed, Axis, Connected, Disconnected, Dropped}
 use Rattle.rules.specs.Events.{droppedType, isDropped}
 use Rattle.rules.specs.Filters.{keptOf}
-use Rattle.rules.specs.State.{buttonAfter, axisAfter, writesButton, writesAxis}
-use Rattle.rules.specs.Step.{updatedAt, updatedOf}
+use Rattle.rules.specs.State.{buttonAfter, axisAfter, writesButton, writesAxis, readPressed}
+use Rattle.rules.specs.Down.{bitsAfter, countsAfter}
+use Rattle.rules.specs.Hub.{pressedAt}
+use Rattle.rules.specs.Step.{followedAt, updatedAt, updatedOf}
+use Rattle.down.specs.Down.{unmoved}
 
 -- ---- a dropped event
 
@@ -30,9 +33,9 @@ was-dropped true false e = sym e
 was-dropped false d e = cc
 
 same-by : (on : Bool) (h : Hub) (e : Event) (k : ℕ) → e .event ≡ Dropped → updatedAt on h e k ≡ h
-unfolding updatedAt buttonAfter axisAfter writesButton writesAxis
-same-by true h e k d = rw (d, or-false, or-false, set-getD, set-getD, set-getD, set-getD)
-same-by false h e k d = rw (or-false, or-false, set-getD, set-getD, set-getD, set-getD)
+unfolding updatedAt buttonAfter axisAfter writesButton writesAxis readPressed pressedAt followedAt bitsAfter countsAfter
+same-by true h e k d = rw (d, or-false, or-false, set-getD, set-getD, set-getD, set-getD, unmoved, unmoved)
+same-by false h e k d = rw (or-false, or-false, set-getD, set-getD, set-getD, set-getD, unmoved, unmoved)
 
 pub dropped-same : (filters on : Bool) (h : Hub) (e : Event) → keptOf filters e ≡ false → updatedOf on h e ≡ h
 unfolding keptOf isDropped updatedOf

@@ -10,7 +10,8 @@ use Rattle.rules.specs.declared.ValueAnswer.the-variants as valueAnswer
 use Rattle.rules.specs.declared.ButtonAnswer.the-variants as buttonAnswer
 use Rattle.rules.specs.declared.AxisAnswer.the-variants as axisAnswer
 use Rattle.rules.specs.declared.NumberAnswer.the-variants as numberAnswer
-use Rattle.rules.specs.Queries.{truthBy, valueBy, buttonBy, axisBy, numberBy}
+use Rattle.rules.specs.declared.DownAnswer.the-variants as downAnswer
+use Rattle.rules.specs.Queries.{truthBy, valueBy, buttonBy, axisBy, numberBy, downBy}
 
 pub truth-refused : (n : ℕ) (b : Bool) → (n ≡ 0 → ⊥) → truthAnswer.Refused n ≡ truthBy n b
 truth-refused zero b some = absurd (some refl)
@@ -31,6 +32,10 @@ axis-refused (suc n) here a some = refl
 pub number-refused : (n : ℕ) (here : Bool) (x : ℕ) → (n ≡ 0 → ⊥) → numberAnswer.Refused n ≡ numberBy n here x
 number-refused zero here x some = absurd (some refl)
 number-refused (suc n) here x some = refl
+
+pub down-refused : (n count : ℕ) (axis : Bool) → (n ≡ 0 → ⊥) → downAnswer.Refused n ≡ downBy n count axis
+down-refused zero count axis some = absurd (some refl)
+down-refused (suc n) count axis some = refl
 
 pub unless : (b : Bool) → not b ≡ cond b false true
 unless true = refl

@@ -1,4 +1,4 @@
-// The queries of document 01 on a hub that is lent: each takes the head and the arrays that it reads, and changes nothing. "Query: 6, 16"; "A query by a code
+// The queries of document 01, and of W-213, on a hub that is lent: each takes the head and the arrays that it reads, and changes nothing. "Query: 6, 16"; "A query by a code
 // not known reads false or 0.0". Each answers what its definition in the law book says, at the hub that head and arrays stand for, for any numbers and whatever
 // the arrays hold that it is not lent.
 mod reading;
@@ -10,7 +10,7 @@ ghost use Prim.Native.Nat.{ℕ, _≤_};
 ghost use lib.Ieee.{Float};
 ghost use Rattle.rules.specs.Names.{nowhere};
 ghost use Rattle.rules.specs.Queries.{pressedByCode, pressedByName, connectedOf, valueByCode, valueByName, thresholdByCode};
-ghost use Rattle.rules.specs.Queries.{buttonPlaceOf, buttonByCode, buttonByName, axisByCode, axisByName, nameByCode, codeByName};
+ghost use Rattle.rules.specs.Queries.{buttonPlaceOf, buttonByCode, buttonByName, axisByCode, axisByName, nameByCode, codeByName, downOf, lowestPressed};
 ghost use Rattle.gather.specs.EventPlaces.{PlaceIs};
 ghost use Rattle.hub.specs.Lent.{Listed, Columns, listed, columns, hubOf};
 use columns::Marks;
@@ -19,10 +19,12 @@ use columns::Values;
 use hub::Head;
 use rules::AxisAnswer;
 use rules::ButtonAnswer;
+use rules::DownAnswer;
 use rules::ELEMENT_AXIS;
 use rules::NO_NAME;
 use rules::NOWHERE;
 use rules::NumberAnswer;
+use rules::PLACES_PER_PAD;
 use rules::TruthAnswer;
 use rules::ValueAnswer;
 
@@ -286,6 +288,27 @@ pub fn code_of_name<'s>(
     let place = gather::present_place(names, renames, &head.renamed, p, name);
     let code = pad::code_at(codes, place);
     reading::number(refusal, place < NOWHERE, code)
+}
+
+// ---- what is down (W-213)
+
+// How many button records of a pad are pressed, and whether an axis element's is. Refuses 6.
+pub fn down(head: Head, p: u8) -> DownAnswer
+    ensures { λ r. ⌜ ((s : Listed) (t : Columns) → r ≡ downOf (hubOf head s t) p) ⌝ }
+{
+    let refusal = refusals::pad_refusal(head.pads, p);
+    let count = pad::pad_number(&head.held, p);
+    reading::down(refusal, count, 0 < pad::pad_number(&head.heldaxes, p))
+}
+
+// The lowest code of a pad whose button record is pressed, or Absent. Refuses 6.
+pub fn lowest_pressed(head: Head, codes: &[u32; 208], p: u8) -> NumberAnswer
+    ensures { λ r. ⌜ ((kinds names renames : List ℕ) (t : Columns) → r ≡ lowestPressed (hubOf head (listed (now (codes .entry)) kinds names renames) t) p) ⌝ }
+{
+    let refusal = refusals::pad_refusal(head.pads, p);
+    let lowest = down::lowest(&head.down, p);
+    let code = pad::code_at(codes, PLACES_PER_PAD * choices::wide(p) + lowest);
+    reading::number(refusal, lowest < PLACES_PER_PAD, code)
 }
 
 // ---- the head

@@ -6,7 +6,7 @@ ghost use lib.ListN.{getD};
 ghost use Rattle.rules.specs.Names.{nowhere};
 ghost use Rattle.rules.specs.State.{readPressed, readValue};
 ghost use Rattle.rules.specs.Hub.{pastButton, pastAxis};
-ghost use Rattle.rules.specs.Queries.{truthBy, valueBy, buttonBy, axisBy, numberBy};
+ghost use Rattle.rules.specs.Queries.{truthBy, valueBy, buttonBy, axisBy, numberBy, downBy};
 ghost use Rattle.columns.specs.Columns.{buttonsOf, axesOf};
 use columns::Marks;
 use columns::Times;
@@ -15,6 +15,7 @@ use rules::AxisAnswer;
 use rules::AxisData;
 use rules::ButtonAnswer;
 use rules::ButtonData;
+use rules::DownAnswer;
 use rules::NumberAnswer;
 use rules::TruthAnswer;
 use rules::ValueAnswer;
@@ -43,6 +44,17 @@ pub fn number(refusal: u8, here: bool, x: u32) -> NumberAnswer
         NumberAnswer::Number(x)
     } else {
         NumberAnswer::Absent
+    }
+}
+
+// A count, and whether an axis element is among what it counts, or the refusal.
+pub fn down(refusal: u8, count: u8, axis: bool) -> DownAnswer
+    ensures { λ r. ⌜ r ≡ downBy refusal count axis ⌝ }
+{
+    if refusal == 0 {
+        DownAnswer::Down(count, axis)
+    } else {
+        DownAnswer::Refused(refusal)
     }
 }
 

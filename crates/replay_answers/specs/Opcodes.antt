@@ -79,6 +79,14 @@ waiting = 23
 abbrev pub dump : ℕ
 dump = 24
 
+-- ---- 38, 39: what is down on a pad, its lowest pressed code (W-213)
+
+abbrev pub down : ℕ
+down = 38
+
+abbrev pub lowest : ℕ
+lowest = 39
+
 -- ---- 40, 41: the pump with its report, the deadzone calculation with which of the three it was (W-205)
 
 abbrev pub report : ℕ

@@ -5,6 +5,7 @@ use numbers::Tilted;
 use rules::Answer;
 use rules::AxisAnswer;
 use rules::ButtonAnswer;
+use rules::DownAnswer;
 use rules::NumberAnswer;
 use rules::PumpAnswer;
 use rules::RegisterAnswer;
@@ -30,6 +31,7 @@ pub enum Asked {
     Counter(u64),
     Since(ButtonAnswer),
     Pair(Tilted),
+    Down(DownAnswer),
     Nothing,
 }
 

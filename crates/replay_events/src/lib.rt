@@ -116,9 +116,10 @@ fn pump<'s>(
 
 // ---- update, insert, and the counter
 
-fn update(
+fn update<'s>(
     head: Head,
-    codes: &[u32; 208],
+    codes: &'s [u32; 208],
+    kinds: &'s [u8; 208],
     hasbutton: &mut [bool; 208],
     hasaxis: &mut [bool; 208],
     values: &mut Values,
@@ -126,15 +127,27 @@ fn update(
     marks: &mut Marks,
     event: &[u8],
 ) -> Told
-    ensures { λ r. ⌜ ((kinds names renames queuebytes queuecodes : List ℕ) →
-        told r (listed (now (codes .entry)) kinds names renames)
+    ensures { λ r. ⌜ ((names renames queuebytes queuecodes : List ℕ) →
+        told r (listed (now (codes .entry)) (now (kinds .entry)) names renames)
         (columns (now (hasbutton .exit)) (now (hasaxis .exit)) (now (values .exit)) (now (times .exit)) (now (marks .exit)) queuebytes queuecodes)
-        ≡ updated (updateOf (hubOf head (listed (now (codes .entry)) kinds names renames)
+        ≡ updated (updateOf (hubOf head (listed (now (codes .entry)) (now (kinds .entry)) names renames)
         (columns (now (hasbutton .entry)) (now (hasaxis .entry)) (now (values .entry)) (now (times .entry)) (now (marks .entry)) queuebytes queuecodes))
         (now (event .entry)))) ⌝ }
 {
-    let answer = calls::update(head, codes, hasbutton, hasaxis, values, times, marks, event);
-    replay_answers::tell(head, Changed::Updated(answer))
+    let r = calls::update(
+        head,
+        codes,
+        kinds,
+        hasbutton,
+        hasaxis,
+        values,
+        times,
+        marks,
+        event,
+    );
+    let h = r.head;
+    let answer = r.answer;
+    replay_answers::tell(h, Changed::Updated(answer))
 }
 
 fn insert(
@@ -239,6 +252,7 @@ pub fn send<'s>(
         return update(
             head,
             codes,
+            kinds,
             hasbutton,
             hasaxis,
             values,

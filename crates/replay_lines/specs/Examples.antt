@@ -1,5 +1,6 @@
 -- Lines printed into a buffer that has room for them. Computed.
 use mathlib.Core.Path.{_≡_, refl}
+use mathlib.Core.Bool.{true}
 use mathlib.Core.List.{[], _∷_}
 use lib.ListN.{take, replicate}
 use lib.Ieee as Ieee
@@ -8,10 +9,11 @@ use Rattle.numbers.specs.declared.Tilted.{Tilted}
 use Rattle.numbers.specs.declared.Tilt.the-variants.{Between, Full}
 use Rattle.rules.specs.declared.ValueAnswer.the-variants as valueAnswer
 use Rattle.rules.specs.declared.NumberAnswer.the-variants as numberAnswer
+use Rattle.rules.specs.declared.DownAnswer.the-variants as downAnswer
 use Rattle.rules.specs.declared.PumpAnswer.the-variants as pumpAnswer
 use Rattle.lines.specs.Appending.{laidOver}
 use Rattle.lines.specs.Text.{numberText, hexText, decimalOf, hexOf, placesOf, heldOf, linesOf}
-use Rattle.lines.specs.Letters.{A, B, D, E, F, I, L, M, N, P, R, S, T, U, Vee, W, space, newline}
+use Rattle.lines.specs.Letters.{A, B, C, D, E, F, I, L, M, N, O, P, R, S, T, U, Vee, W, space, newline}
 use Rattle.replay_answers.specs.declared.Asked.the-variants as asked
 use Rattle.replay_answers.specs.declared.Changed.the-variants as changed
 use Rattle.replay_words.specs.Pieces.{Written, written, laid, laidAll}
@@ -33,6 +35,20 @@ name-line :
     take 9 (laidAll (queryPieces (asked.Name numberAnswer.Absent)) empty .bytes) ≡ N ∷ A ∷ M ∷ E ∷ space ∷ 50 ∷ 53 ∷ 53 ∷ newline ∷ []
 unfolding empty queryPieces laidAll laid laidOver numberText decimalOf placesOf
 name-line = refl
+
+-- "DOWN 52 1": every place of a pad, an axis element's among them
+down-line :
+    take 10 (laidAll (queryPieces (asked.Down (downAnswer.Down 52 true))) empty .bytes)
+    ≡ D ∷ O ∷ W ∷ N ∷ space ∷ 53 ∷ 50 ∷ space ∷ 49 ∷ newline ∷ []
+unfolding empty queryPieces laidAll laid laidOver numberText decimalOf placesOf
+down-line = refl
+
+-- "CODE 0001013c": the lowest pressed code is said as the code of a name is
+lowest-line :
+    take 14 (laidAll (queryPieces (asked.Code (numberAnswer.Number 0x0001013c))) empty .bytes)
+    ≡ C ∷ O ∷ D ∷ E ∷ space ∷ 48 ∷ 48 ∷ 48 ∷ 49 ∷ 48 ∷ 49 ∷ 51 ∷ 99 ∷ newline ∷ []
+unfolding empty queryPieces laidAll laid laidOver hexText hexOf
+lowest-line = refl
 
 -- "REFUSED 8 42 0 2": the third record, at place 42, is malformed; no event so far, two steps
 pump-line :

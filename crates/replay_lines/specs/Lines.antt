@@ -22,6 +22,8 @@ use Rattle.rules.specs.declared.AxisAnswer.{AxisAnswer}
 use Rattle.rules.specs.declared.AxisAnswer.the-variants as axisAnswer
 use Rattle.rules.specs.declared.NumberAnswer.{NumberAnswer}
 use Rattle.rules.specs.declared.NumberAnswer.the-variants as numberAnswer
+use Rattle.rules.specs.declared.DownAnswer.{DownAnswer}
+use Rattle.rules.specs.declared.DownAnswer.the-variants as downAnswer
 use Rattle.rules.specs.Names.{noName}
 use Rattle.rules.specs.Answers.{bit}
 use Rattle.rules.specs.Events.{formOf}
@@ -107,7 +109,7 @@ stick (axisAnswer.Data a) = word (S ∷ T ∷ I ∷ C ∷ K ∷ space ∷ []) �
 stick axisAnswer.Absent = absent
 stick (axisAnswer.Refused n) = refused n
 
--- ---- 19, 20: name of a code, "255 for none"; code of a name
+-- ---- 19, 20: name of a code, "255 for none"; code of a name, and 39: the lowest pressed code
 
 abbrev pub nameWord : List ℕ
 nameWord = N ∷ A ∷ M ∷ E ∷ space ∷ []
@@ -121,6 +123,12 @@ abbrev pub code : NumberAnswer → List Piece
 code (numberAnswer.Number n) = word (C ∷ O ∷ D ∷ E ∷ space ∷ []) ∷ hex n newline ∷ []
 code numberAnswer.Absent = absent
 code (numberAnswer.Refused n) = refused n
+
+-- ---- 38: what is down on a pad, "axis 0 or 1"
+
+abbrev pub down : DownAnswer → List Piece
+down (downAnswer.Down count axis) = labelled (D ∷ O ∷ W ∷ N ∷ space ∷ []) count space ∷ number (bit axis) newline ∷ []
+down (downAnswer.Refused n) = refused n
 
 -- ---- 40: pump, its lines as in 4, then its report, "one line `TILT NONE`, `TILT INSIDE`, `TILT BETWEEN` or `TILT FULL`, after every answer"
 
@@ -158,6 +166,7 @@ queryPieces (asked.Stands a) = truth (S ∷ T ∷ A ∷ N ∷ D ∷ S ∷ space 
 queryPieces (asked.Waiting n) = labelled (W ∷ A ∷ I ∷ T ∷ I ∷ N ∷ G ∷ space ∷ []) n newline ∷ []
 queryPieces (asked.Since a) = since a
 queryPieces (asked.Pair t) = pair t
+queryPieces (asked.Down a) = down a
 queryPieces asked.Nothing = noOperation
 
 -- that changes it; a pump's events stand in the out buffer

@@ -9,6 +9,7 @@ use replay_answers::Changed;
 use rules::Answer;
 use rules::AxisAnswer;
 use rules::ButtonAnswer;
+use rules::DownAnswer;
 use rules::NO_NAME;
 use rules::NumberAnswer;
 use rules::PumpAnswer;
@@ -228,6 +229,19 @@ fn code(text: &mut [u8], at: usize, answer: NumberAnswer) -> usize
     }
 }
 
+// How many button records of a pad are pressed, and whether an axis element's is.
+fn down(text: &mut [u8], at: usize, answer: DownAnswer) -> usize
+    ensures { λ r. ⌜ written (now (text .exit)) r ≡ laidAll (law.down answer) (written (now (text .entry)) at) ⌝ }
+{
+    match answer {
+        DownAnswer::Down(count, axis) => {
+            let next = lines::labelled(text, at, b"DOWN ", count as u64, SPACE);
+            lines::number(text, next, replay_words::bit(axis), NEWLINE)
+        }
+        DownAnswer::Refused(number) => refused(text, at, number),
+    }
+}
+
 // ---- the deadzone calculation
 
 // The pair's bits, and which of the three it was.
@@ -262,6 +276,7 @@ pub fn query_line(text: &mut [u8], at: usize, answer: Asked) -> usize
         Asked::Counter(n) => counted(text, at, n),
         Asked::Since(a) => since(text, at, a),
         Asked::Pair(t) => pair(text, at, t),
+        Asked::Down(a) => down(text, at, a),
         Asked::Nothing => none(text, at),
     }
 }

@@ -11,7 +11,7 @@ use Rattle.rules.specs.declared.Hub.{Hub}
 use Rattle.rules.specs.Forms.{fieldOf}
 use Rattle.rules.specs.Repeat.{repeatOf}
 use Rattle.rules.specs.Queries.{pressedByCode, pressedByName, connectedOf, valueByCode, valueByName, thresholdByCode}
-use Rattle.rules.specs.Queries.{buttonByCode, buttonByName, axisByCode, axisByName, nameByCode, codeByName}
+use Rattle.rules.specs.Queries.{buttonByCode, buttonByName, axisByCode, axisByName, nameByCode, codeByName, downOf, lowestPressed}
 use Rattle.replay_answers.specs.declared.Asked.{Asked}
 use Rattle.replay_answers.specs.declared.Asked.the-variants as asked
 use Rattle.replay_answers.specs.Opcodes as opcodes
@@ -64,6 +64,20 @@ byName h opcode p name =
     (cond (eqb opcode opcodes.axisByName) (asked.Axis (axisByName h p name))
     (cond (eqb opcode opcodes.codeOfName) (asked.Code (codeByName h p name)) asked.Nothing))))
 
+-- ---- 38, 39: what is down on a pad, and its lowest pressed code; pad 1
+
+unfoldable pub down : Hub → List ℕ → Asked
+down h payload = sized payload 1 (asked.Down (downOf h (getD payload 0 0)))
+
+unfoldable pub lowest : Hub → List ℕ → Asked
+lowest h payload = sized payload 1 (asked.Code (lowestPressed h (getD payload 0 0)))
+
+-- one of the two, else what the head has
+unfoldable pub byPad : Hub → ℕ → List ℕ → Asked
+byPad h opcode payload =
+    cond (eqb opcode opcodes.down) (down h payload)
+    (cond (eqb opcode opcodes.lowest) (lowest h payload) (ofHead h opcode payload))
+
 -- ---- 41: the deadzone calculation and which of the three it was; x 4, y 4, threshold 4 (float bits, no NaN)
 
 unfoldable pub calculated : Float → Float → Float → Asked
@@ -94,4 +108,4 @@ askedOf h opcode payload =
     cond (eqb opcode opcodes.repeat) (repeated h payload)
     (cond (eqb opcode opcodes.since) (since h payload)
     (cond (eqb opcode opcodes.pair) (pair payload)
-    (cond (leb opcodes.pressedByCode opcode && leb opcode opcodes.threshold) (queried h opcode payload) (ofHead h opcode payload))))
+    (cond (leb opcodes.pressedByCode opcode && leb opcode opcodes.threshold) (queried h opcode payload) (byPad h opcode payload))))

@@ -5,7 +5,7 @@ use mathlib.Core.List.{List}
 use borrow.Author.Tests.{eq-eqb, ne-eqb, le-leb, lt-leb}
 use Rattle.rules.specs.declared.Hub.{Hub}
 use Rattle.replay_answers.specs.Opcodes as opcodes
-use Rattle.replay_queries.specs.Asked.{since, pair, queried, ofHead, askedOf}
+use Rattle.replay_queries.specs.Asked.{since, pair, queried, byPad, askedOf}
 
 module _ (h : Hub) (opcode : ℕ) (payload : List ℕ) (other : opcode ≡ opcodes.repeat → ⊥) where
   pub held : opcode ≡ opcodes.since → askedOf h opcode payload ≡ since h payload
@@ -18,7 +18,7 @@ module _ (h : Hub) (opcode : ℕ) (payload : List ℕ) (other : opcode ≡ opcod
     calculates is = rw (ne-eqb opcode opcodes.repeat other, ne-eqb opcode opcodes.since nor, eq-eqb opcode opcodes.pair is)
 
     module _ (no-pair : opcode ≡ opcodes.pair → ⊥) where
-      pub below : opcode < opcodes.pressedByCode → askedOf h opcode payload ≡ ofHead h opcode payload
+      pub below : opcode < opcodes.pressedByCode → askedOf h opcode payload ≡ byPad h opcode payload
       unfolding askedOf
       below low =
           rw (
@@ -29,7 +29,7 @@ module _ (h : Hub) (opcode : ℕ) (payload : List ℕ) (other : opcode ≡ opcod
           )
 
       module _ (high : opcodes.pressedByCode ≤ opcode) where
-        pub above : opcodes.threshold < opcode → askedOf h opcode payload ≡ ofHead h opcode payload
+        pub above : opcodes.threshold < opcode → askedOf h opcode payload ≡ byPad h opcode payload
         unfolding askedOf
         above past =
             rw (

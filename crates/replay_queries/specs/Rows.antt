@@ -10,9 +10,10 @@ use Rattle.rules.specs.declared.Hub.{Hub}
 use Rattle.rules.specs.Forms.{fieldOf}
 use Rattle.rules.specs.Repeat.{repeatOf}
 use Rattle.rules.specs.Queries.{pressedByCode, pressedByName, connectedOf, valueByCode, valueByName, thresholdByCode}
-use Rattle.rules.specs.Queries.{buttonByCode, buttonByName, axisByCode, axisByName, nameByCode, codeByName}
+use Rattle.rules.specs.Queries.{buttonByCode, buttonByName, axisByCode, axisByName, nameByCode, codeByName, downOf, lowestPressed}
 use Rattle.replay_answers.specs.declared.Asked.the-variants as asked
-use Rattle.replay_queries.specs.Asked.{repeated, stands, ofHead, stateByCode, byCode, byName, calculated, floatAt, pair, since, queried, askedOf}
+use Rattle.replay_queries.specs.Asked.{repeated, stands, ofHead, down, lowest, byPad, stateByCode, byCode, byName}
+use Rattle.replay_queries.specs.Asked.{calculated, floatAt, pair, since, queried, askedOf}
 
 module _ (h : Hub) (s : List ℕ) where
   pub row-7 : length s ≡ 24 → askedOf h 7 s ≡ asked.Repeat (repeatOf h (fieldOf s 0 8) (fieldOf s 8 8) (fieldOf s 16 8))
@@ -20,16 +21,24 @@ module _ (h : Hub) (s : List ℕ) where
   row-7 long = rw long
 
   pub row-9 : askedOf h 9 s ≡ asked.Counter (h .counter)
-  unfolding askedOf ofHead
+  unfolding askedOf byPad ofHead
   row-9 = refl
 
   pub row-22 : length s ≡ 1 → askedOf h 22 s ≡ asked.Stands (connectedOf h (getD s 0 0))
-  unfolding askedOf ofHead stands
+  unfolding askedOf byPad ofHead stands
   row-22 long = rw long
 
   pub row-23 : askedOf h 23 s ≡ asked.Waiting (h .waiting)
-  unfolding askedOf ofHead
+  unfolding askedOf byPad ofHead
   row-23 = refl
+
+  pub row-38 : length s ≡ 1 → askedOf h 38 s ≡ asked.Down (downOf h (getD s 0 0))
+  unfolding askedOf byPad down
+  row-38 long = rw long
+
+  pub row-39 : length s ≡ 1 → askedOf h 39 s ≡ asked.Code (lowestPressed h (getD s 0 0))
+  unfolding askedOf byPad lowest
+  row-39 long = rw long
 
   -- pad 1, code 4
   module _ (long : length s ≡ 5) where

@@ -1,5 +1,6 @@
 // The operations of the oracle's scenario form (`oracle/README.md`) that leave the hub as it is, on a hub that is lent: the queries and Repeat. Each answers what
 // its row of the table says (specs/Asked.antt), for every opcode and payload, by the call's own contract: a function here picks the call and reads the payload.
+mod down;
 mod held;
 mod tilt;
 mod timed;
@@ -8,7 +9,7 @@ ghost use mathlib.Core.Path.{_≡_};
 ghost use mathlib.Core.List.{List};
 ghost use Prim.Native.Nat.{ℕ};
 ghost use Rattle.hub.specs.Lent.{Listed, Columns, listed, columns, hubOf};
-ghost use Rattle.replay_queries.specs.Asked.{stands, ofHead, stateByCode, byCode, byName, askedOf};
+ghost use Rattle.replay_queries.specs.Asked.{stands, ofHead, byPad, stateByCode, byCode, byName, askedOf};
 use columns::Marks;
 use columns::Times;
 use columns::Values;
@@ -45,6 +46,10 @@ const THRESHOLD: u8 = 21;
 const STANDS: u8 = 22;
 
 const WAITING: u8 = 23;
+
+const DOWN: u8 = 38;
+
+const LOWEST: u8 = 39;
 
 const PAIR: u8 = 41;
 
@@ -285,6 +290,20 @@ fn of_head(head: Head, opcode: u8, payload: &[u8]) -> Asked
     Asked::Nothing
 }
 
+// What is down on a pad, else what the head has.
+fn by_pad(head: Head, codes: &[u32; 208], opcode: u8, payload: &[u8]) -> Asked
+    ensures { λ r. ⌜ ((kinds names renames : List ℕ) (t : Columns) →
+        r ≡ byPad (hubOf head (listed (now (codes .entry)) kinds names renames) t) opcode (now (payload .entry))) ⌝ }
+{
+    if opcode == DOWN {
+        return down::down(head, payload);
+    }
+    if opcode == LOWEST {
+        return down::lowest(head, codes, payload);
+    }
+    of_head(head, opcode, payload)
+}
+
 // ---- any operation that leaves the hub as it is
 
 // The payload's length says whether a query goes by a code or by a name.
@@ -327,10 +346,10 @@ pub fn ask<'s>(
         return tilt::pair(payload);
     }
     if opcode < PRESSED_BY_CODE {
-        return of_head(head, opcode, payload);
+        return by_pad(head, codes, opcode, payload);
     }
     if THRESHOLD < opcode {
-        return of_head(head, opcode, payload);
+        return by_pad(head, codes, opcode, payload);
     }
     if payload.len() == CODE_PAYLOAD {
         return by_code(

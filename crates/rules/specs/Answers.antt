@@ -26,6 +26,8 @@ use Rattle.rules.specs.declared.AxisAnswer.{AxisAnswer}
 use Rattle.rules.specs.declared.AxisAnswer.the-variants as axisAnswer
 use Rattle.rules.specs.declared.NumberAnswer.{NumberAnswer}
 use Rattle.rules.specs.declared.NumberAnswer.the-variants as numberAnswer
+use Rattle.rules.specs.declared.DownAnswer.{DownAnswer}
+use Rattle.rules.specs.declared.DownAnswer.the-variants as downAnswer
 use Rattle.rules.specs.Events.{eventBytes}
 use Rattle.rules.specs.Pump.{drained, full, paused}
 
@@ -95,3 +97,8 @@ abbrev pub numberSays : NumberAnswer → Said
 numberSays (numberAnswer.Number x) = served (x ∷ [])
 numberSays numberAnswer.Absent = served []
 numberSays (numberAnswer.Refused number) = refused number []
+
+-- the count, and whether an axis element is among them
+abbrev pub downSays : DownAnswer → Said
+downSays (downAnswer.Down count axis) = served (count ∷ bit axis ∷ [])
+downSays (downAnswer.Refused number) = refused number []

@@ -30,7 +30,7 @@ use Rattle.rules.specs.Places.{placeOf, noElement, rowsOf, convertsOf, c
 use Rattle.rules.specs.Refusals.{thresholdsRefusal, isRegistered, formRefusal, insertRefusal, first, unlessFits}
 use Rattle.rules.specs.Events.{formEvent}
 use Rattle.rules.specs.State.{nextCounter}
-use Rattle.rules.specs.Setters.{withCounter, withSheet, withRows, withNames, withMarks, withState, withFlags, withQueue}
+use Rattle.rules.specs.Setters.{withCounter, withSheet, withRows, withNames, withMarks, withState, withDown, withFlags, withQueue}
 use Rattle.rules.specs.Hub.{placeIn, queueAfter, waitingAfter}
 use Rattle.rules.specs.Step.{updatedOf}
 
@@ -72,6 +72,9 @@ freshHub pressed released reversed filters updates =
       buttons = replicate (nowhere + 1) blankButton;
       hasaxis = replicate nowhere false;
       axes = replicate (nowhere + 1) blankAxis;
+      down = replicate padLimit 0;
+      held = replicate padLimit 0;
+      heldaxes = replicate padLimit 0;
       flags = replicate (flagsPerPad * padLimit) false;
       queue = replicate queueRoom blankSlot;
       head = 0;
@@ -124,7 +127,8 @@ registeredAt h p hats count rows =
     in
     let stands = withMarks kept (set (h .connected) p true) (set (h .renamed) p false) in
     let fresh = withState stands (clearedOf (h .hasbutton) run placesPerPad) (h .buttons) (clearedOf (h .hasaxis) run placesPerPad) (h .axes) in
-    withFlags fresh (clearedOf (h .flags) (flagsPerPad * p) flagsPerPad)
+    let released = withDown fresh (set (h .down) p 0) (set (h .held) p 0) (set (h .heldaxes) p 0) in
+    withFlags released (clearedOf (h .flags) (flagsPerPad * p) flagsPerPad)
 
 -- 2: "four pads stand"
 unfoldable pub registerRefusal : ℕ → List ℕ → ℕ

@@ -18,4 +18,5 @@ mod Tilt
 mod Repeat
 mod Calls
 mod Queries
+mod Down
 mod Answers

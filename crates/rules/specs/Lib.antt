@@ -7,6 +7,7 @@ pub mod Dispatch
 pub mod State
 pub mod Filters
 pub mod Refusals
+pub mod Down
 pub mod Setters
 pub mod Hub
 pub mod Step

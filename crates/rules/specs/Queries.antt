@@ -1,5 +1,5 @@
 -- The queries: they read the hub and change nothing. "Query: 6, 16"; "A query by a code not known reads false or 0.0". Definitions only.
-use Prim.Native.Nat.{ℕ, zero, suc}
+use Prim.Native.Nat.{ℕ, zero, suc, _+_, _*_}
 use mathlib.Core.Bool.{Bool, true, false, cond}
 use mathlib.Core.List.{List}
 use lib.ListN.{getD}
@@ -19,10 +19,13 @@ use Rattle.rules.specs.declared.AxisAnswer.{AxisAnswer}
 use Rattle.rules.specs.declared.AxisAnswer.the-variants as axisAnswer
 use Rattle.rules.specs.declared.NumberAnswer.{NumberAnswer}
 use Rattle.rules.specs.declared.NumberAnswer.the-variants as numberAnswer
-use Rattle.rules.specs.Names.{nowhere, noName, toNec}
+use Rattle.rules.specs.declared.DownAnswer.{DownAnswer}
+use Rattle.rules.specs.declared.DownAnswer.the-variants as downAnswer
+use Rattle.rules.specs.Names.{placesPerPad, nowhere, noName, toNec}
 use Rattle.rules.specs.Sheets.{elementAxis}
 use Rattle.rules.specs.Places.{placeOf, namedOf, presentNames}
 use Rattle.rules.specs.Refusals.{isRegistered, unlessFits, buttonQueryRefusal, axisQueryRefusal, nameQueryRefusal}
+use Rattle.rules.specs.Down.{lowestOf}
 use Rattle.rules.specs.Hub.{placeIn, namesIn, nameIn, kindAt, elementAt, buttonAt, axisAt, hasButtonAt, hasAxisAt, pressedAt, valueAt}
 
 -- 6 alone: a query by a code, or by a pad
@@ -126,3 +129,20 @@ unfoldable pub codeByName : Hub → ℕ → ℕ → NumberAnswer
 unfolding nameQueryRefusal namedOf presentNames
 codeByName h p n =
     numberBy (nameQueryRefusal (h .pads) p n) (ltb (namedIn h p n) nowhere) (getD (h .codes) (namedIn h p n) 0)
+
+-- ---- W-213: what is down
+
+abbrev pub downBy : ℕ → ℕ → Bool → DownAnswer
+downBy zero count axis = downAnswer.Down count axis
+downBy (suc number) count axis = downAnswer.Refused (suc number)
+
+-- "the number of pressed elements on each pad and whether any axis element reads pressed"
+unfoldable pub downOf : Hub → ℕ → DownAnswer
+unfolding isRegistered
+downOf h p = downBy (padRefusal h p) (getD (h .held) p 0) (ltb 0 (getD (h .heldaxes) p 0))
+
+-- "the lowest pressed code, which says that there is none": a pad's places are in code order
+unfoldable pub lowestPressed : Hub → ℕ → NumberAnswer
+unfolding isRegistered lowestOf
+lowestPressed h p =
+    let k = lowestOf (getD (h .down) p 0) in numberBy (padRefusal h p) (ltb k placesPerPad) (getD (h .codes) (placesPerPad * p + k) 0)

@@ -21,8 +21,10 @@ use Rattle.rules.specs.Places.{placeOf, presentNames, clearedOf}
 use Rattle.rules.specs.Events.{WithQueued, eventIf, nameOf, codeOf}
 use Rattle.rules.specs.Dispatch.{dispatchOf, single}
 use Rattle.rules.specs.Filters.{Filtered, filteredOf}
-use Rattle.rules.specs.State.{buttonAfter, axisAfter, writesButton, writesAxis}
-use Rattle.rules.specs.Setters.{withMarks, withState, withFlags, withQueue}
+use Rattle.rules.specs.Sheets.{elementAxis}
+use Rattle.rules.specs.State.{buttonAfter, axisAfter, writesButton, writesAxis, readPressed}
+use Rattle.rules.specs.Down.{bitsAfter, countsAfter}
+use Rattle.rules.specs.Setters.{withMarks, withState, withDown, withFlags, withQueue}
 use Rattle.rules.specs.Hub.{placeIn, nameIn, kindAt, elementAt, buttonAt, axisAt, hasButtonAt, hasAxisAt, pressedAt, frontOf, flagPlace, viewOf, queueAfter, waitingAfter}
 
 -- ---- the record looked at
@@ -74,18 +76,25 @@ renamedAfter renamed p kind = cond (eqb kind kindConnected) (set renamed p false
 unfoldable pub marksCleared : ℕ → ℕ → ℕ
 marksCleared kind n = cond (eqb kind kindConnected) n 0
 
+-- and nothing of the pad is down: one of its numbers in the summary
+unfoldable pub downCleared : List ℕ → ℕ → ℕ → List ℕ
+downCleared numbers p kind = cond (eqb kind kindConnected) (set numbers p 0) numbers
+
 -- the ring's front after a step took it
 unfoldable pub headAfter : ℕ → ℕ → ℕ
 headAfter head waiting = cond (ltb 0 waiting) ((head % queueRoom + 1) % queueRoom) head
 
 unfoldable pub markedOf : Hub → RawRecord → Hub
-unfolding connectedAfter renamedAfter marksCleared headAfter clearedOf
+unfolding connectedAfter renamedAfter marksCleared downCleared headAfter clearedOf
 markedOf h r =
     let joined = withMarks h (connectedAfter (h .connected) (r .pad) (r .kind)) (renamedAfter (h .renamed) (r .pad) (r .kind)) in
     let run = placesPerPad * r .pad in
     let places = marksCleared (r .kind) placesPerPad in
     let fresh = withState joined (clearedOf (h .hasbutton) run places) (h .buttons) (clearedOf (h .hasaxis) run places) (h .axes) in
-    let unflagged = withFlags fresh (clearedOf (h .flags) (flagsPerPad * r .pad) (marksCleared (r .kind) flagsPerPad)) in
+    let released =
+    withDown fresh (downCleared (h .down) (r .pad) (r .kind)) (downCleared (h .held) (r .pad) (r .kind)) (downCleared (h .heldaxes) (r .pad) (r .kind))
+    in
+    let unflagged = withFlags released (clearedOf (h .flags) (flagsPerPad * r .pad) (marksCleared (r .kind) flagsPerPad)) in
     withQueue unflagged (h .queue) (headAfter (h .head) (h .waiting)) (h .waiting - 1)
 
 -- ---- what waits behind the event: the record's own, then the filters'
@@ -106,13 +115,22 @@ pushedOf h e f es =
 
 -- ---- the state after an event, `update`; an event of no code, or one dropped, changes nothing
 
+-- the summary at place k, whose record read pressed before as `was` says and now as `is` says; axis: whether an axis element stands there
+unfoldable pub followedAt : Hub → ℕ → Bool → Bool → Bool → Hub
+unfolding bitsAfter countsAfter
+followedAt h k was is axis =
+    withDown h (bitsAfter (h .down) k was is) (countsAfter (h .held) k was is) (countsAfter (h .heldaxes) k (axis && was) (axis && is))
+
 unfoldable pub updatedAt : Bool → Hub → Event → ℕ → Hub
-unfolding buttonAfter axisAfter writesButton writesAxis
+unfolding buttonAfter axisAfter writesButton writesAxis readPressed pressedAt followedAt
 updatedAt on h e k =
-    withState h (set (h .hasbutton) k (hasButtonAt h k || (on && writesButton e)))
-    (set (h .buttons) k (cond on (buttonAfter e (hasButtonAt h k) (buttonAt h k) (h .counter)) (buttonAt h k)))
-    (set (h .hasaxis) k (hasAxisAt h k || (on && writesAxis e)))
+    let stands = hasButtonAt h k || (on && writesButton e) in
+    let button = cond on (buttonAfter e (hasButtonAt h k) (buttonAt h k) (h .counter)) (buttonAt h k) in
+    let written =
+    withState h (set (h .hasbutton) k stands) (set (h .buttons) k button) (set (h .hasaxis) k (hasAxisAt h k || (on && writesAxis e)))
     (set (h .axes) k (cond on (axisAfter e (axisAt h k) (h .counter)) (axisAt h k)))
+    in
+    followedAt written k (pressedAt h k) (readPressed stands button) (eqb (kindAt h k) elementAxis)
 
 unfoldable pub updatedOf : Bool → Hub → Event → Hub
 unfolding updatedAt codeOf placeOf

@@ -157,7 +157,8 @@ pub struct AxisData {
 
 // The hub. A pad has 52 places in code order, pad p the places 52 p to 52 p + 51; place 208 is no pad's, and stands for a code that is not there.
 // `hats`, `converts` and `names` are the registered sheet's; where a pad is `renamed`, the columns `newhats`, `newconverts` and `renames` hold
-// instead. A place has a button record where it is `hasbutton`, and an axis record where it is `hasaxis`.
+// instead. A place has a button record where it is `hasbutton`, and an axis record where it is `hasaxis`. Beside the button records stands what is down
+// (W-213): of each pad the bits of its places, how many of them are set, and how many of those are axis elements'.
 pub struct Hub {
     pub pressed: f32,
     pub released: f32,
@@ -182,6 +183,9 @@ pub struct Hub {
     pub buttons: [ButtonData; 209],
     pub hasaxis: [bool; 208],
     pub axes: [AxisData; 209],
+    pub down: [u64; 4],
+    pub held: [u8; 4],
+    pub heldaxes: [u8; 4],
     pub flags: [bool; 24],
     pub queue: [Slot; 64],
     pub head: u8,
@@ -300,5 +304,11 @@ pub enum AxisAnswer {
 pub enum NumberAnswer {
     Number(u32),
     Absent,
+    Refused(u8),
+}
+
+// How many button records of a pad are pressed, and whether an axis element's is (W-213).
+pub enum DownAnswer {
+    Down(u8, bool),
     Refused(u8),
 }

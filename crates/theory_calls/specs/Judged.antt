@@ -25,8 +25,8 @@ use Rattle.rules.specs.Pump.{Progress, Verdict, going, stopping, refusing, drai
 use Rattle.rules.specs.Pump.{stepped, endedBy, runOf, startOf, pumpBy}
 use Rattle.rules.specs.Repeat.{repeatBy}
 use Rattle.rules.specs.Calls.{registerBy, formPlace, updateFormBy, updateBy, insertFormBy, insertBy}
-use Rattle.rules.specs.Queries.{truthBy, valueBy, buttonBy, axisBy, numberBy}
-use Rattle.rules.specs.Answers.{Said, served, refused, bit, answerSays, registerSays, pumpSays, repeatSays, truthSays, valueSays, buttonSays, axisSays, numberSays}
+use Rattle.rules.specs.Queries.{truthBy, valueBy, buttonBy, axisBy, numberBy, downBy}
+use Rattle.rules.specs.Answers.{Said, served, refused, bit, answerSays, registerSays, pumpSays, repeatSays, truthSays, valueSays, buttonSays, axisSays, numberSays, downSays}
 
 -- the refusal's number alone; where it is 0, the values
 abbrev pub judged : ℕ → List ℕ → Said
@@ -45,7 +45,7 @@ pub done-said : (call : ℕ → Answered) → call zero .answer ≡ answer.Done
 done-said call done refuses zero = ap answerSays done
 done-said call done refuses (suc number) = ap answerSays (refuses number)
 
--- ---- a pad, an event, a truth, a value, a record, a number
+-- ---- a pad, an event, a truth, a value, a record, a number, what is down
 
 pub register-said : (number : ℕ) (h : Hub) (sheet : List ℕ) → registerSays (registerBy number h sheet .answer) ≡ judged number (h .pads ∷ [])
 register-said zero h sheet = refl
@@ -91,6 +91,11 @@ pub name-said : (number : ℕ) (none : Bool) (name : ℕ)
     → numberSays (numberBy number (cond none false true) name) ≡ judged number (present (not none) (name ∷ []))
 name-said number true name = number-said number false name
 name-said number false name = number-said number true name
+
+-- a count, and whether an axis element is among them
+pub down-said : (number count : ℕ) (axis : Bool) → downSays (downBy number count axis) ≡ judged number (count ∷ bit axis ∷ [])
+down-said zero count axis = refl
+down-said (suc number) count axis = refl
 
 -- ---- update and insert_event: 8 for bytes that are no event, else what the event's fields give
 

@@ -1,7 +1,7 @@
 -- "Where an answer is an enum, a definition gives this paper's number and values for each of the enum's cases. The promises use that definition": for
 -- each public call what its answer says, told by the call's refusal and the values beside it. A call's contract equals its answer with the definition
 -- that is named here. By the law for its type of answer (Judged). inc, reset_counter, counter and waiting answer no enum.
-use Prim.Native.Nat.{ℕ}
+use Prim.Native.Nat.{ℕ, _+_, _*_}
 use mathlib.Core.Bool.{Bool, true, false, not}
 use mathlib.Core.List.{List, [], _∷_}
 use mathlib.Core.Path.{_≡_, refl, ap}
@@ -9,21 +9,22 @@ use lib.Dec.{eqb, ltb}
 use lib.Ieee.{Float, binary32, toBits}
 use lib.ListN.{length, getD}
 use Rattle.rules.specs.declared.Hub.{Hub}
-use Rattle.rules.specs.Names.{nowhere, noName}
+use Rattle.rules.specs.Names.{placesPerPad, nowhere, noName}
 use Rattle.rules.specs.Forms.{readEvent}
 use Rattle.rules.specs.Sheets.{elementAxis}
 use Rattle.rules.specs.Refusals.{thresholdsRefusal, pumpRefusal, repeatRefusal, buttonQueryRefusal, axisQueryRefusal, nameQueryRefusal}
 use Rattle.rules.specs.Events.{eventBytes}
+use Rattle.rules.specs.Down.{lowestOf}
 use Rattle.rules.specs.Hub.{placeIn, nameIn, kindAt, elementAt, buttonAt, axisAt, hasButtonAt, hasAxisAt, pressedAt, valueAt}
 use Rattle.rules.specs.Pump.{drained, pumpOf}
 use Rattle.rules.specs.Repeat.{duePlace, repeatedAt, repeatOf}
 use Rattle.rules.specs.Calls.{freshHub, newBy, newOf, registerRefusal, registerOf, renameRefusal, renameBy, renameOf, updateOf, insertOf}
 use Rattle.rules.specs.Queries.{padRefusal, namedIn, buttonPlace, pressedByCode, pressedByName, connectedOf, valueByCode, valueByName, thresholdByCode}
-use Rattle.rules.specs.Queries.{buttonByCode, buttonByName, axisByCode, axisByName, nameByCode, codeByName}
-use Rattle.rules.specs.Answers.{served, refused, bit, answerSays, registerSays, pumpSays, repeatSays, truthSays, valueSays, buttonSays, axisSays, numberSays}
+use Rattle.rules.specs.Queries.{buttonByCode, buttonByName, axisByCode, axisByName, nameByCode, codeByName, downOf, lowestPressed}
+use Rattle.rules.specs.Answers.{served, refused, bit, answerSays, registerSays, pumpSays, repeatSays, truthSays, valueSays, buttonSays, axisSays, numberSays, downSays}
 use Rattle.theory_calls.specs.Machines as machines
 use Rattle.theory_calls.specs.Judged.{judged, present, buttonValues, axisValues, eventRefusal, updateRefusal, queueRefusal, pumpEnding, pumpJudged}
-use Rattle.theory_calls.specs.Judged.{done-said, register-said, pump-said, update-said, insert-said, repeat-said, truth-said, value-said, button-said, axis-said, number-said, name-said}
+use Rattle.theory_calls.specs.Judged.{done-said, register-said, pump-said, update-said, insert-said, repeat-said, truth-said, value-said, button-said, axis-said, number-said, name-said, down-said}
 
 -- ---- new: 1. register: 2, 3, 4, 5. rename: 6, 7, 3, 4, 5
 
@@ -143,6 +144,17 @@ module _ (h : Hub) (p : ℕ) where
   pub said-is-connected : truthSays (connectedOf h p) ≡ judged (padRefusal h p) (bit (getD (h .connected) p false) ∷ [])
   unfolding connectedOf
   said-is-connected = truth-said (padRefusal h p) _
+
+  -- W-213
+  pub said-down : downSays (downOf h p) ≡ judged (padRefusal h p) (getD (h .held) p 0 ∷ bit (ltb 0 (getD (h .heldaxes) p 0)) ∷ [])
+  unfolding downOf
+  said-down = down-said (padRefusal h p) _ _
+
+  pub said-lowest-pressed :
+      let k = lowestOf (getD (h .down) p 0) in
+      numberSays (lowestPressed h p) ≡ judged (padRefusal h p) (present (ltb k placesPerPad) (getD (h .codes) (placesPerPad * p + k) 0 ∷ []))
+  unfolding lowestPressed
+  said-lowest-pressed = number-said (padRefusal h p) _ _
 
 -- ---- 01's padlog example: its sheet becomes pad 0; "DRAINED 6", all 42 bytes taken and 6 events written. A place past the end is given back
 

@@ -17,12 +17,13 @@ use Rattle.rules.specs.declared.ValueAnswer.{ValueAnswer}
 use Rattle.rules.specs.declared.ButtonAnswer.{ButtonAnswer}
 use Rattle.rules.specs.declared.AxisAnswer.{AxisAnswer}
 use Rattle.rules.specs.declared.NumberAnswer.{NumberAnswer}
+use Rattle.rules.specs.declared.DownAnswer.{DownAnswer}
 use Rattle.rules.specs.Pump.{Run, pumpOf}
 use Rattle.rules.specs.Tilt.{pumpTilt}
 use Rattle.rules.specs.Repeat.{repeatOf}
 use Rattle.rules.specs.Calls.{newOf, registerOf, renameOf, updateOf, insertOf, incOf, resetOf}
 use Rattle.rules.specs.Queries.{pressedByCode, pressedByName, connectedOf, valueByCode, valueByName, thresholdByCode}
-use Rattle.rules.specs.Queries.{buttonByCode, buttonByName, axisByCode, axisByName, nameByCode, codeByName}
+use Rattle.rules.specs.Queries.{buttonByCode, buttonByName, axisByCode, axisByName, nameByCode, codeByName, downOf, lowestPressed}
 
 -- a promise leaves one answer
 abbrev pub One : {A : Type 0} → (A → Type 0) → Type 0
@@ -130,6 +131,12 @@ module _ (h : Hub) where
 
   pub unique-is-connected : (p : ℕ) → One (λ (r : TruthAnswer). r ≡ connectedOf h p)
   unique-is-connected p = one-equation _
+
+  pub unique-down : (p : ℕ) → One (λ (r : DownAnswer). r ≡ downOf h p)
+  unique-down p = one-equation _
+
+  pub unique-lowest-pressed : (p : ℕ) → One (λ (r : NumberAnswer). r ≡ lowestPressed h p)
+  unique-lowest-pressed p = one-equation _
 
   pub unique-waiting : One (λ (r : ℕ). r ≡ h .waiting)
   unique-waiting = one-equation _

@@ -78,6 +78,13 @@ fn answers(hub: &mut Hub, operation: &Operation<'_>) -> Result<Vec<String>, Refu
         Operation::ByCode(opcode, pad, code) => by_code(hub, opcode, PadId(pad), Code(code))?,
         Operation::ByName(opcode, pad, name) => by_name(hub, opcode, PadId(pad), Name(name))?,
         Operation::Stands(pad) => format!("STANDS {}", u8::from(hub.is_connected(PadId(pad))?)),
+        Operation::Down(pad) => {
+            let down = hub.down(PadId(pad))?;
+            format!("DOWN {} {}", down.count, u8::from(down.axis))
+        }
+        Operation::LowestPressed(pad) => {
+            or_absent("CODE", hub.lowest_pressed(PadId(pad))?.map(|code| code.to_string()))
+        }
         Operation::Waiting => format!("WAITING {}", hub.waiting()),
         Operation::Deadzone { x, y, threshold } => calculated(x, y, threshold),
     };

@@ -4,6 +4,7 @@ mod answers;
 #[path = "../../../oracle/reading/bytes.rs"]
 #[allow(dead_code)]
 mod bytes;
+mod down;
 mod feeding;
 mod forms;
 #[path = "../../examples/play/player.rs"]

@@ -1,7 +1,7 @@
 -- `calls::update` meets its contract: by what reading the bytes finds.
-use borrow.Author.Needs.{needs}
 use Rattle.rules.specs.Calls.{updateOf}
 use Rattle.calls.specs.Judged.{updateForm}
+use borrow.Author.Needs.{needs}
 use Rattle.calls.proofs.update.Statement.{statement}
 use Rattle.calls.proofs.update.Tie as tie
 
@@ -19,13 +19,13 @@ enum-told c = search needs
 
 returns : tie.Need-returns
 unfolding updateOf updateForm
-returns c kinds names renames queuebytes queuecodes =
+returns c names renames queuebytes queuecodes =
     rw (← c .before .before .before .before .before .before .before .before .before .read-event .ensures, c .before .before .before .before .before .before .before .read .given .1)
-    (c .update-form .ensures kinds names renames queuebytes queuecodes)
+    (c .update-form .ensures names renames queuebytes queuecodes)
 
 returns-2 : tie.Need-returns-2
 unfolding updateOf
-returns-2 c kinds names renames queuebytes queuecodes = rw (← c .before .before .read-event .ensures, c .enum-told .given .1)
+returns-2 c names renames queuebytes queuecodes = rw (← c .before .before .read-event .ensures, c .enum-told .given .1)
 
 pub update-spec : {M : Type 1} → statement M
 update-spec =

@@ -1,11 +1,11 @@
 -- `calls::update_form` meets its contract: by the refusal.
-use borrow.Author.Needs.{needs}
 use denote.Ref.{now}
 use mathlib.Core.Bool.{true}
 use Rattle.rules.specs.Events.{formEvent}
 use Rattle.hub.specs.Lent.{listed}
 use Rattle.cells.specs.Settled.{settled-hub}
 use Rattle.calls.specs.Judged.{update-refused, update-done}
+use borrow.Author.Needs.{needs}
 use Rattle.calls.proofs.update_form.Statement.{statement}
 use Rattle.calls.proofs.update_form.Tie as tie
 
@@ -16,7 +16,7 @@ form-refusal-requires : tie.Need-form-refusal-requires
 form-refusal-requires c κs = search needs
 
 returns : tie.Need-returns
-returns c kinds names renames queuebytes queuecodes =
+returns c names renames queuebytes queuecodes =
     update-refused _ _ (c .before .before .place-of .ensures .is) (c .before .form-refusal .ensures) (c .if1 .taken)
 
 form-event-requires : tie.Need-form-event-requires
@@ -32,16 +32,20 @@ event-place-requires c κs = rw (c .before .form-event .ensures) (c .before .bef
 settle-requires : tie.Need-settle-requires
 settle-requires c κs = search needs
 
+follow-requires : tie.Need-follow-requires
+follow-requires c κs = search needs
+
 returns-2 : tie.Need-returns-2
-returns-2 c kinds names renames queuebytes queuecodes =
-    let place = c .before .before .before .before .before .before in
+returns-2 c names renames queuebytes queuecodes =
+    let settled = c .before .before .before .before in
+    let place = settled .before .before .before .before .before .before .before .before .before in
     let code = place .before in
     let made = code .before in
     let judged = made .before .before in
     let a = judged .before .before .args in
     update-done _ _ (judged .before .place-of .ensures .is) (judged .form-refusal .ensures) (made .before .if1 .left) (made .form-event .ensures)
-    (settled-hub (a .head) (listed (now (a .codes)) kinds names renames) queuebytes queuecodes true _
-    (rw (← code .code-of .ensures, ← place .event-place .ensures .is) (c .settle .ensures)))
+    (settled-hub (a .head) (listed (now (a .codes)) (now (a .kinds)) names renames) queuebytes queuecodes true _
+    (rw (code .code-of .ensures) at (place .event-place .ensures .is)) (settled .settle .ensures) (c .follow .ensures))
 
 pub update-form-spec : {M : Type 1} → statement M
 update-form-spec =
@@ -54,4 +58,5 @@ update-form-spec =
     code-of-requires
     event-place-requires
     settle-requires
+    follow-requires
     returns-2)

@@ -1,8 +1,8 @@
 -- `cells::settle` meets its contract, at each of its four ends, by what the calls on the way ensure.
-use borrow.Author.Needs.{needs}
 use borrow.Author.Tests.{not-true, not-false}
 use mathlib.Core.Path.{_∙_, sym}
 use Rattle.cells.specs.Settled.{settled-none, settled-button, settled-axis}
+use borrow.Author.Needs.{needs}
 use Rattle.cells.proofs.settle.Statement.{statement}
 use Rattle.cells.proofs.settle.Tie as tie
 
@@ -22,6 +22,9 @@ bool-at-requires c κs = search needs
 button-at-requires : tie.Need-button-at-requires
 button-at-requires c κs = search needs
 
+read-pressed-requires : tie.Need-read-pressed-requires
+read-pressed-requires c κs = search needs
+
 button-after-requires : tie.Need-button-after-requires
 button-after-requires c κs = search needs
 
@@ -31,17 +34,24 @@ put-button-requires c κs = search needs
 mark-requires : tie.Need-mark-requires
 mark-requires c κs = search needs
 
+change-requires : tie.Need-change-requires
+change-requires c κs = search needs
+
 -- a button's event
 returns-2 : tie.Need-returns-2
 returns-2 c =
-    let stored = c .before .before in
-    let read = stored .before .before .before .before .before in
+    let marked = c .before in
+    let stored = marked .before .before in
+    let after = stored .before .before .before .before in
+    let reads = after .before in
+    let read = reads .before in
     let known = read .before .before .before .before in
     let writes = known .before .before in
     let updates = writes .before .before in
     let a = updates .before .args in
-    settled-button (not-false (a .on) (updates .if1 .left)) (writes .before .writes-button .ensures) (writes .if2 .taken)
-    (known .bool-at .ensures) (read .button-at .ensures) (stored .before .button-after .ensures) (stored .put-button .ensures) (c .mark .ensures)
+    settled-button (not-false (a .on) (updates .if1 .left)) (writes .before .writes-button .ensures) (writes .if2 .taken) (known .bool-at .ensures)
+    (read .button-at .ensures) (reads .read-pressed .ensures) (after .button-after .ensures) (stored .put-button .ensures) (marked .mark .ensures)
+    (c .change .ensures)
 
 writes-axis-requires : tie.Need-writes-axis-requires
 writes-axis-requires c κs = search needs
@@ -90,9 +100,11 @@ settle-spec =
     writes-button-requires
     bool-at-requires
     button-at-requires
+    read-pressed-requires
     button-after-requires
     put-button-requires
     mark-requires
+    change-requires
     returns-2
     writes-axis-requires
     returns-3

@@ -11,7 +11,7 @@ refusal-of-requires : tie.Need-refusal-of-requires
 refusal-of-requires c κs = tt
 
 returns : tie.Need-returns
-returns c kinds names renames queuebytes queuecodes = rw (c .refusal-of .ensures) (ap doneOf (c .before .update .ensures kinds names renames queuebytes queuecodes))
+returns c names renames queuebytes queuecodes = rw (c .refusal-of .ensures) (ap doneOf (c .before .before .update .ensures names renames queuebytes queuecodes))
 
 pub copperyarn-lent-update-spec : {M : Type 1} → statement M
 copperyarn-lent-update-spec = tie.close (tie.spec update-requires refusal-of-requires returns)

@@ -1,8 +1,11 @@
 -- `desk::with_pad` meets its contract: what its parts ensure, put together.
-use Rattle.desk.specs.Heads.{registeredHead}
+use Rattle.desk.specs.Heads.{registered-is}
 use borrow.Author.Needs.{needs}
 use Rattle.desk.proofs.with_pad.Statement.{statement}
 use Rattle.desk.proofs.with_pad.Tie as tie
+
+clear-requires : tie.Need-clear-requires
+clear-requires c κs = search needs
 
 add-h : tie.Need-add-h
 add-h c = search needs
@@ -32,7 +35,6 @@ clear-flags-requires : tie.Need-clear-flags-requires
 clear-flags-requires c κs = search needs
 
 returns : tie.Need-returns
-unfolding registeredHead
 returns c =
     let widened = c .before in
     let renamed = widened .before .before in
@@ -40,20 +42,16 @@ returns c =
     let hatted = converted .before .before in
     let connected = hatted .before .before in
     let counted = connected .before .before in
-    rw (
-      c .clear-flags .ensures,
-      widened .wide .ensures .0,
-      renamed .mark-pad3 .ensures,
-      converted .mark-pad2 .ensures,
-      hatted .set-pad2 .ensures,
-      connected .mark-pad .ensures,
-      counted .set-pad .ensures,
-    )
+    let released = counted .before .before in
+    let a = released .before .before .before .before .before .before .before .args in
+    registered-is (a .head) (a .p) (a .hats) (a .count) (a .converts) (counted .set-pad .ensures) (connected .mark-pad .ensures) (hatted .set-pad2 .ensures)
+    (converted .mark-pad2 .ensures) (renamed .mark-pad3 .ensures) (released .clear .ensures) (widened .wide .ensures .0) (c .clear-flags .ensures)
 
 pub with-pad-spec : {M : Type 1} → statement M
 with-pad-spec =
     tie.close
     (tie.spec
+    clear-requires
     add-h
     set-pad-requires
     mark-pad-requires

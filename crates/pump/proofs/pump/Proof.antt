@@ -34,7 +34,7 @@ returns c =
 
 loop-holds : At tie.Need-loop-holds
 loop-holds c =
-    let n = c .before .before .before .before .before in
+    let n = c .before .before .before .before .before .before .before .before in
     let s = n .before .before .before .before in
     let a = s .args in
     let g = accepted (length (now (a .batch))) (length (now (a .out))) (a .place) (n .before .pump-refusal .ensures) (n .if1 .left) in (
@@ -69,8 +69,8 @@ loop2-holds c =
 sub-stop-answer : At tie.Need-sub-stop-answer
 sub-stop-answer c = let i = c .before .before .before in omega (arith, i .loop2 .inv .1, mark.outer i .loop .inv .3)
 
-sub-t67 : At tie.Need-sub-t67
-sub-t67 c = let r = mark.room-in (mark.going (c .before .before .before)) in omega (arith, r .few)
+sub-t77 : At tie.Need-sub-t77
+sub-t77 c = let r = mark.room-in (mark.going (c .before .before .before)) in omega (arith, r .few)
 
 -- a stop
 returns-2 : At tie.Need-returns-2
@@ -162,7 +162,7 @@ add-filled c = let r = mark.room-of (c .before .before .before .before) in omega
 
 loop-less : At tie.Need-loop-less
 loop-less c =
-    let g = mark.going-of (mark.kept (c .before .before .before .before)) in
+    let g = mark.going-of (mark.kept (mark.settled (c .before .before .before .before))) in
     let r = mark.room-in g in
     let i = mark.inner g .loop2 .inv in omega (arith, i .1)
 
@@ -170,7 +170,8 @@ loop-less c =
 loop-again : At tie.Need-loop-again
 loop-again c =
     let w = c .before .before .before .before in
-    let k = mark.kept w in
+    let t = mark.settled w in
+    let k = mark.kept t in
     let p = mark.served k in
     let y = mark.accepted-of p in
     let n = mark.inner-at p in
@@ -195,7 +196,8 @@ loop-again c =
             ∙ sym
             (mark.goes-on y
             (step-keeps (mark.hub-in n) (mark.batch-in o) (l .at) (o .loop .out) (mark.events-in o) (mark.steps-in n) refl (turns p) (mark.given y .place) kept
-            (settled-hub (head-served p) (mark.listed-in (mark.start o)) (queuebytes-by p) (queuecodes-by p) (u .updates) z (rw (← place) (w .settle .ensures)))
+            (settled-hub (head-served p) (mark.listed-in (mark.start o)) (queuebytes-by p) (queuecodes-by p) (u .updates) z place (t .settle .ensures)
+            (w .follow .ensures))
             (written (o .loop .out) (mark.events-in o) (r .filled) (r .room) z wrote))
             (meets p))
             ∙ i .same ∙ o .loop .inv .0 .same;
@@ -227,7 +229,7 @@ pump-spec =
     returns-2
     plain.take-requires
     plain.stepped-requires-2
-    sub-t67
+    sub-t77
     same-length-2
     returns-3
     plain.mark-joins-requires
@@ -237,6 +239,7 @@ pump-spec =
     loop2-less
     loop2-again
     settle-requires
+    plain.follow-requires
     sub-write-event
     part-write-event-start
     part-write-event-end

@@ -29,7 +29,7 @@ unfolding sentOf
 returns-2 c =
     let row = c .before .before .before .before .before .before in
     let other = row .before in
-    rw (← other .before .pumps .ensures, other .if1 .left, eq-eqb _ _ (row .if2 .taken)) (ap (sent _) (c .update .ensures _ _ _ _ _))
+    rw (← other .before .pumps .ensures, other .if1 .left, eq-eqb _ _ (row .if2 .taken)) (ap (sent _) (c .update .ensures _ _ _ _))
 
 insert-requires : tie.Need-insert-requires
 insert-requires c κs = search needs

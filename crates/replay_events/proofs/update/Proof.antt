@@ -13,8 +13,8 @@ tell-requires : tie.Need-tell-requires
 tell-requires c κs = search needs
 
 returns : tie.Need-returns
-returns c kinds names renames queuebytes queuecodes =
-    told-is _ _ _ (c .tell .ensures) ∙ ap updated (c .before .update .ensures kinds names renames queuebytes queuecodes)
+returns c names renames queuebytes queuecodes =
+    told-is _ _ _ (c .tell .ensures) ∙ ap updated (c .before .before .update .ensures names renames queuebytes queuecodes)
 
 pub update-spec : {M : Type 1} → statement M
 update-spec = tie.close (tie.spec update-requires tell-requires returns)

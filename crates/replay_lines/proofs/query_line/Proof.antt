@@ -102,8 +102,14 @@ enum-known-answer-13 c = c .match .keys13
 pair-requires : tie.Need-pair-requires
 pair-requires c κs = tt
 
+enum-known-answer-14 : tie.Need-enum-known-answer-14
+enum-known-answer-14 c = c .match .keys14
+
+down-requires : tie.Need-down-requires
+down-requires c κs = tt
+
 enum-told : tie.Need-enum-told
-enum-told c = c .match .keys14
+enum-told c = c .match .keys15
 
 none-requires : tie.Need-none-requires
 none-requires c κs = tt
@@ -204,7 +210,14 @@ same-length-14 c = search needs
 
 returns-14 : tie.Need-returns-14
 unfolding queryPieces
-returns-14 c = rw (c .before .before .before .before .enum-told .given .1) (c .before .before .none .ensures)
+returns-14 c = rw (c .before .before .before .before .before .answer14 .given .1) (c .before .before .down .ensures)
+
+same-length-15 : tie.Need-same-length-15
+same-length-15 c = search needs
+
+returns-15 : tie.Need-returns-15
+unfolding queryPieces
+returns-15 c = rw (c .before .before .before .before .enum-told .given .1) (c .before .before .none .ensures)
 
 pub query-line-spec : {M : Type 1} → statement M
 query-line-spec =
@@ -242,6 +255,8 @@ query-line-spec =
     since-requires
     enum-known-answer-13
     pair-requires
+    enum-known-answer-14
+    down-requires
     enum-told
     none-requires
     same-length
@@ -271,4 +286,6 @@ query-line-spec =
     same-length-13
     returns-13
     same-length-14
-    returns-14)
+    returns-14
+    same-length-15
+    returns-15)

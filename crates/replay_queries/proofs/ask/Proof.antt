@@ -28,24 +28,24 @@ returns-3 c queuebytes queuecodes =
     let row = c .before in
     rw (calculates _ _ _ (row .before .before .if1 .left) (row .before .if2 .left) (row .if3 .taken)) (c .pair .ensures)
 
-of-head-requires : tie.Need-of-head-requires
-of-head-requires c κs = search needs
+by-pad-requires : tie.Need-by-pad-requires
+by-pad-requires c κs = search needs
 
 returns-4 : tie.Need-returns-4
 returns-4 c queuebytes queuecodes =
     let row = c .before in
     let known = row .before .before in
-    rw (below _ _ _ (known .before .if1 .left) (known .if2 .left) (row .before .if3 .left) (row .if4 .taken)) (c .of-head .ensures _ _)
+    rw (below _ _ _ (known .before .if1 .left) (known .if2 .left) (row .before .if3 .left) (row .if4 .taken)) (c .by-pad .ensures _ _ _ _)
 
-of-head-requires-2 : tie.Need-of-head-requires-2
-of-head-requires-2 c κs = search needs
+by-pad-requires-2 : tie.Need-by-pad-requires-2
+by-pad-requires-2 c κs = search needs
 
 returns-5 : tie.Need-returns-5
 returns-5 c queuebytes queuecodes =
     let row = c .before in
     let known = row .before .before in
     rw (above _ _ _ (known .before .before .if1 .left) (known .before .if2 .left) (known .if3 .left) (row .before .if4 .left) (row .if5 .taken))
-    (c .of-head2 .ensures _ _)
+    (c .by-pad2 .ensures _ _ _ _)
 
 shared-slice-read-by-code : tie.Need-shared-slice-read-by-code
 shared-slice-read-by-code c = search needs
@@ -115,9 +115,9 @@ ask-spec =
     returns-2
     pair-requires
     returns-3
-    of-head-requires
+    by-pad-requires
     returns-4
-    of-head-requires-2
+    by-pad-requires-2
     returns-5
     shared-slice-read-by-code
     read4-requires

@@ -15,8 +15,9 @@ use Rattle.rules.specs.declared.ValueAnswer.the-variants as valueAnswer
 use Rattle.rules.specs.declared.ButtonAnswer.the-variants as buttonAnswer
 use Rattle.rules.specs.declared.AxisAnswer.the-variants as axisAnswer
 use Rattle.rules.specs.declared.NumberAnswer.the-variants as numberAnswer
+use Rattle.rules.specs.declared.DownAnswer.the-variants as downAnswer
 use Rattle.rules.specs.Events.{eventBytes}
-use Rattle.rules.specs.Answers.{served, refused, answerSays, registerSays, pumpSays, tiltSays, repeatSays, truthSays, valueSays, buttonSays, axisSays, numberSays}
+use Rattle.rules.specs.Answers.{served, refused, answerSays, registerSays, pumpSays, tiltSays, repeatSays, truthSays, valueSays, buttonSays, axisSays, numberSays, downSays}
 use Rattle.rules.specs.Examples.Table.{_is_, Right, event}
 
 -- "The answer holds reason, place, events written, and the number of steps made"; a refusal in the pump stands beside place, events and steps
@@ -58,6 +59,9 @@ queries :
     ∷ numberSays (numberAnswer.Number 0x00010130) is served (0x00010130 ∷ [])
     ∷ numberSays numberAnswer.Absent is served []
     ∷ numberSays (numberAnswer.Refused 16) is refused 16 []
+    ∷ downSays (downAnswer.Down 3 true) is served (3 ∷ 1 ∷ [])
+    ∷ downSays (downAnswer.Down 0 false) is served (0 ∷ 0 ∷ [])
+    ∷ downSays (downAnswer.Refused 6) is refused 6 []
     ∷ [])
 unfolding Ieee.ofBits Ieee.toBits
 queries = refl

@@ -27,7 +27,7 @@ use Rattle.pump.proofs.pump.Proof.Loops.{At, hubAt}
 
 -- the call is not refused
 abbrev pub admitted : At tie.At-loop → At tie.Else1
-admitted c = c .before .before .before .before .before .before
+admitted c = c .before .before .before .before .before .before .before .before .before
 
 abbrev pub start : At tie.At-loop → At tie.Start
 start c = admitted c .before .before .before .before
@@ -53,7 +53,7 @@ abbrev pub taken : At tie.Else3 → At tie.After-take
 taken c = c .before .before
 
 abbrev pub accepted : At tie.After-mark-joins → At tie.Else3
-accepted c = c .before .before .before .before .before .before
+accepted c = c .before .before .before .before .before .before .before .before .before
 
 -- all that is lent to `serve` is
 abbrev pub lent : At tie.After-flags3 → At tie.After-mark-joins
@@ -68,7 +68,10 @@ accepted-of c = accepted (joined c)
 abbrev pub inner-at : At tie.After-serve → At tie.At-loop2
 inner-at c = inner-of (taken (accepted-of c))
 
--- ---- from the settled state back to the kept event
+-- ---- from what follows the settled state back to it, and to the kept event
+
+abbrev pub settled : At tie.After-follow → At tie.After-settle
+settled c = c .before .before .before .before
 
 abbrev pub kept : At tie.After-settle → At tie.Then4
 kept c = c .before .before .before .before .before .before .before
@@ -97,7 +100,7 @@ abbrev pub hub-in : At tie.At-loop2 → Hub
 hub-in c =
     let l = c .loop2 in
     let s = start (outer c) in
-    hubAt (s .args .head) (l .connected) (l .renamed) (l .flags) (l .front) (l .waiting) (listed-in s) (columns-in c)
+    hubAt (s .args .head) (l .connected) (l .renamed) (l .down) (l .held) (l .heldaxes) (l .flags) (l .front) (l .waiting) (listed-in s) (columns-in c)
 
 -- the marks of which records stand, once a record that joins has cleared its pad's
 abbrev pub hasbutton-by : At tie.After-mark-joins → List Bool
@@ -110,8 +113,10 @@ hasaxis-by c = c .mark-joins .last .1 .1 .1 .0
 abbrev pub head-marked : At tie.After-mark-joins → Head
 head-marked c =
     let m = c .mark-joins .last in
+    let d = m .1 .1 .1 .1 .1 in
     let t = taken (accepted c) in
-    steppedHead (start (outer (inner-of t)) .args .head) (m .0) (m .1 .0) (m .1 .1 .1 .1 .0) (t .take .result .head) (t .take .result .waiting)
+    steppedHead (start (outer (inner-of t)) .args .head) (m .0) (m .1 .0) (d .0) (d .1 .0) (d .1 .1 .0) (m .1 .1 .1 .1 .0) (t .take .result .head)
+    (t .take .result .waiting)
 
 abbrev pub batch-in : At tie.At-loop → List ℕ
 batch-in c = now (start c .args .batch)
@@ -210,5 +215,5 @@ goes-on c e met =
     (taken-is (taken c) .number) (c .if3 .left) e met
 
 -- there was room where a kept event is written
-pub room-of : (c : At tie.After-settle) → Room (going-of (kept c))
-room-of c = room-in (going-of (kept c))
+pub room-of : (c : At tie.After-follow) → Room (going-of (kept (settled c)))
+room-of c = room-in (going-of (kept (settled c)))

@@ -36,3 +36,6 @@ mark-joins-requires c κs = search needs
 
 pub kept-requires : At tie.Need-kept-requires
 kept-requires c κs = search needs
+
+pub follow-requires : At tie.Need-follow-requires
+follow-requires c κs = search needs

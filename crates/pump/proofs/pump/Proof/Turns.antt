@@ -53,7 +53,7 @@ turns c =
     let d = givesOf (mark.taken y .take .result) in
     let m = mark.head-marked j in
     let s = mark.listed-in (mark.start o) in
-    turn-served (mark.hub-in i) (mark.batch-in o) (i .loop2 .at) (mark.given y) (j .mark-joins .ensures)
+    turn-served (mark.hub-in i) (mark.batch-in o) (i .loop2 .at) (mark.given y) (j .mark-joins .ensures .0) (j .mark-joins .ensures .1)
     (served-hub m s (mark.hasbutton-by j) (mark.hasaxis-by j) (o .loop .marks) d (c .serve .ensures .1))
     (served-event m s (mark.hasbutton-by j) (mark.hasaxis-by j) (o .loop .marks) d (c .serve .ensures .1))
 
@@ -70,5 +70,5 @@ meets c =
     let l = i .loop2 in
     let seen = columns (mark.hasbutton-by j) (mark.hasaxis-by j) (l .values) (l .times) (o .loop .marks) (l .queuebytes) (l .queuecodes) in
     let m = hubOf (mark.head-marked j) (mark.listed-in (mark.start o)) seen in
-    turn-meets (mark.hub-in i) (mark.batch-in o) (l .at) (mark.given y) (j .mark-joins .ensures) (l .tilt)
+    turn-meets (mark.hub-in i) (mark.batch-in o) (l .at) (mark.given y) (j .mark-joins .ensures .0) (j .mark-joins .ensures .1) (l .tilt)
     (served-met m (mark.taken y .take .result .event) (l .tilt) (c .serve .ensures .2))
