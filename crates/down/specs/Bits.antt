@@ -23,7 +23,7 @@ picked b k =
     let alone : 2 ^ k ≡ 2 ^ (1 + k) - 2 ^ k = omega arith in
     ap (bitAnd b) alone ∙ and-high b 1 k
 
--- a bit is 0 or 1
+-- where the bit is r
 digit : (b k : ℕ) → (r : ℕ) → b / 2 ^ k % 2 ≡ r → bitAnd b (2 ^ k) ≡ r * 2 ^ k
 digit b k r e = picked b k ∙ ap (λ (n : ℕ). n * 2 ^ k) e
 
