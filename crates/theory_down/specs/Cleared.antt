@@ -2,7 +2,7 @@
 -- records, sheets and summary are the same. So each stage of a step, and each call, keeps what is claimed.
 use Prim.Native.Nat.{ℕ, _+_, _*_, _/_, _<_, _≤_}
 use mathlib.Core.Bool.{Bool, true, false}
-use mathlib.Core.List.{List, map}
+use mathlib.Core.List.{List, [], _∷_, map}
 use mathlib.Core.Path.{_≡_, refl, sym, ap, _∙_, subst}
 use lib.Dec.{eqb, ltb}
 use lib.ListN.{length, getD, set, length-set, length-map}
@@ -10,6 +10,7 @@ use lib.Seq.{getD-set-same, getD-set-other}
 use native.Mathlib.Omega.{arith}
 use borrow.Author.Tests.{eqb-true, eqb-false, ltb-true, ltb-false}
 use Rattle.rules.specs.declared.Hub.{Hub}
+use Rattle.rules.specs.declared.ButtonData.{ButtonData}
 use Rattle.rules.specs.declared.RawRecord.{RawRecord}
 use Rattle.rules.specs.declared.NextRecord.{NextRecord}
 use Rattle.rules.specs.declared.Dispatched.{Dispatched}
@@ -17,7 +18,7 @@ use Rattle.rules.specs.Names.{padLimit, placesPerPad, nowhere}
 use Rattle.rules.specs.Forms.{kindConnected}
 use Rattle.rules.specs.Sheets.{elementAxis, hatsOf, countOf}
 use Rattle.rules.specs.Places.{placeOf, clearedOf, rowsOf}
-use Rattle.rules.specs.Hub.{kindAt, hasButtonAt, pressedAt}
+use Rattle.rules.specs.Hub.{kindAt, hasButtonAt, pastButton, pressedAt}
 use Rattle.rules.specs.State.{readPressed}
 use Rattle.rules.specs.Step.{marksCleared, downCleared, markedOf, takenOf, pushedOf, filteredHub, updatedOf, stepEvent, stepHub}
 use Rattle.rules.specs.Calls.{rowCode, rowKind, registeredAt}
@@ -31,30 +32,50 @@ use Rattle.theory_down.specs.Stages.{Whole, Placed, Good, same-reads, up
 
 -- ---- the same records, sheets and summary
 
-pub record Same (h g : Hub) : Type 0 where
-  pub hasbutton : g .hasbutton ≡ h .hasbutton
-  pub buttons : g .buttons ≡ h .buttons
-  pub down : g .down ≡ h .down
-  pub held : g .held ≡ h .held
-  pub heldaxes : g .heldaxes ≡ h .heldaxes
-  pub pads : g .pads ≡ h .pads
-  pub codes : g .codes ≡ h .codes
-  pub kinds : g .kinds ≡ h .kinds
+-- what is looked at, as one value, so that one equation tells that all of it stays
+pub record Looked : Type 0 where
+  pub hasbutton : List Bool
+  pub buttons : List ButtonData
+  pub summary : List (List ℕ)
+  pub pads : ℕ
+  pub codes : List ℕ
+  pub kinds : List ℕ
+
+abbrev pub lookedAt : Hub → Looked
+lookedAt h =
+    record {
+      hasbutton = h .hasbutton;
+      buttons = h .buttons;
+      summary = h .down ∷ h .held ∷ h .heldaxes ∷ [];
+      pads = h .pads;
+      codes = h .codes;
+      kinds = h .kinds;
+    }
+
+abbrev pub Same : Hub → Hub → Type 0
+Same h g = lookedAt g ≡ lookedAt h
 
 module _ (h g : Hub) (s : Same h g) where
   alike-reads : (i : ℕ) → pressedAt g i ≡ pressedAt h i
   unfolding pressedAt
-  alike-reads i = rw (s .hasbutton, s .buttons)
+  alike-reads i = ap (λ (l : Looked). readPressed (getD (l .hasbutton) i false) (getD (l .buttons) i pastButton)) s
+
+  -- one of the summary's three lists
+  one-list : (n : ℕ) → getD (lookedAt g .summary) n [] ≡ getD (lookedAt h .summary) n []
+  one-list n = ap (λ (l : Looked). getD (l .summary) n []) s
 
   same-whole : Whole h → Whole g
   same-whole w =
       record {
-        hasbutton = ap length (s .hasbutton) ∙ w .hasbutton;
-        buttons = ap length (s .buttons) ∙ w .buttons;
-        down = ap length (s .down) ∙ w .down;
-        held = ap length (s .held) ∙ w .held;
-        heldaxes = ap length (s .heldaxes) ∙ w .heldaxes;
+        hasbutton = ap (λ (l : Looked). length (l .hasbutton)) s ∙ w .hasbutton;
+        buttons = ap (λ (l : Looked). length (l .buttons)) s ∙ w .buttons;
+        down = ap length (one-list 0) ∙ w .down;
+        held = ap length (one-list 1) ∙ w .held;
+        heldaxes = ap length (one-list 2) ∙ w .heldaxes;
       }
+
+  at-pad : (n p : ℕ) → getD (getD (lookedAt g .summary) n []) p 0 ≡ getD (getD (lookedAt h .summary) n []) p 0
+  at-pad n p = ap (λ (numbers : List ℕ). getD numbers p 0) (one-list n)
 
   pub same-good : Good h → Good g
   same-good w =
@@ -62,12 +83,15 @@ module _ (h g : Hub) (s : Same h g) where
         whole = same-whole (w .whole);
         pads =
             λ p few.
-            sums-alike (rw (s .down)) (rw (s .held)) (rw (s .heldaxes)) (λ k short. alike-reads (placesPerPad * p + k)) (λ k short. rw (s .kinds)) (w .pads p few);
+            sums-alike (at-pad 0 p) (at-pad 1 p) (at-pad 2 p) (λ k short. alike-reads (placesPerPad * p + k))
+            (λ k short. ap (λ (l : Looked). eqb (getD (l .kinds) (placesPerPad * p + k) 0) elementAxis) s) (w .pads p few);
       }
 
   pub same-placed : Placed h → Placed g
   same-placed w =
-      record { found = λ i inside registered reads. rw (s .codes) (w .found i inside (rw (s .pads) at registered) (sym (alike-reads i) ∙ reads)) }
+      let codes = ap (λ (l : Looked). l .codes) s in
+      let pads = ap (λ (l : Looked). l .pads) s in
+      record { found = λ i inside registered reads. rw codes (w .found i inside (rw pads at registered) (sym (alike-reads i) ∙ reads)) }
 
 -- ---- pad q begins anew
 
@@ -152,7 +176,7 @@ module _ (h : Hub) (r : RawRecord) where
 
   left : eqb (r .kind) kindConnected ≡ false → Same h (markedOf h r)
   unfolding markedOf marksCleared downCleared clearedOf
-  left e = record { hasbutton = rw e; buttons = refl; down = rw e; held = rw e; heldaxes = rw e; pads = refl; codes = refl; kinds = refl }
+  left e = rw e
 
   whole-by : (joins : Bool) → eqb (r .kind) kindConnected ≡ joins → Whole h → Whole (markedOf h r)
   whole-by true e w = anew-whole h (markedOf h r) (r .pad) (joined e) w
@@ -186,7 +210,7 @@ module _ (h : Hub) (r : RawRecord) where
 
 filtered-same : (g : Hub) (d : Dispatched) → Same g (filteredHub g d)
 unfolding filteredHub pushedOf
-filtered-same g d = record { hasbutton = refl; buttons = refl; down = refl; held = refl; heldaxes = refl; pads = refl; codes = refl; kinds = refl }
+filtered-same g d = refl
 
 module _ (h : Hub) (l : NextRecord) where
   -- the hub before its state is updated

@@ -85,8 +85,7 @@ register-kept h sheet w (suc number) e = w
 
 rename-kept : (number : ℕ) (h : Hub) (pad : ℕ) (list : List ℕ) → Kept h → Kept (renameBy number h pad list .hub)
 unfolding renamedAt
-rename-kept zero h pad list w =
-    same-kept h _ (record { hasbutton = refl; buttons = refl; down = refl; held = refl; heldaxes = refl; pads = refl; codes = refl; kinds = refl }) w
+rename-kept zero h pad list w = same-kept h _ refl w
 rename-kept (suc number) h pad list w = w
 
 step-kept : (h : Hub) (l : NextRecord) → Kept h → Kept (stepHub h l)
@@ -106,15 +105,13 @@ unfolding insertedAt
 insert-kept (eventRead.Form f) h w = by (insertRefusal f (h .pads) (formPlace h f) (h .waiting))
   where
     by : (number : ℕ) → Kept (insertFormBy number h f .hub)
-    by zero =
-        same-kept h _ (record { hasbutton = refl; buttons = refl; down = refl; held = refl; heldaxes = refl; pads = refl; codes = refl; kinds = refl }) w
+    by zero = same-kept h _ refl w
     by (suc number) = w
 insert-kept eventRead.Malformed h w = w
 
 counted-kept : (h : Hub) (n : ℕ) → Kept h → Kept (countedAt h n)
 unfolding countedAt
-counted-kept h n w =
-    same-kept h _ (record { hasbutton = refl; buttons = refl; down = refl; held = refl; heldaxes = refl; pads = refl; codes = refl; kinds = refl }) w
+counted-kept h n w = same-kept h _ refl w
 
 -- ---- every hub that is reached
 

@@ -1,7 +1,7 @@
 -- "that two answers meeting a promise are equal is proved": here for each function behind the public calls whose contract is not an equation alone, but
 -- a record or a pair that holds one beside what its callers need: a bound to index by, or that a button is due. By that equation, a line for each
 -- function by name. For every contract that is one equation it is `one-equation` of `theory_calls/specs/Unique.antt`. Numbers are the contracts' own.
-use Prim.Native.Nat.{ℕ, _+_, _*_, _%_, _^_, _<_}
+use Prim.Native.Nat.{ℕ, _+_, _*_, _%_, _^_, _<_, _≤_}
 use mathlib.Core.Bool.{Bool, cond}
 use mathlib.Core.List.{List, _++_}
 use mathlib.Core.Path.{_≡_}
@@ -11,7 +11,9 @@ use Rattle.rules.specs.declared.Event.{Event}
 use Rattle.rules.specs.declared.EventForm.{EventForm}
 use Rattle.rules.specs.declared.View.{View}
 use Rattle.rules.specs.Forms.{fieldOf}
+use Rattle.rules.specs.Names.{placesPerPad}
 use Rattle.rules.specs.Places.{namedOf, presentNames}
+use Rattle.rules.specs.Down.{lowestOf}
 use Rattle.rules.specs.Hub.{slotAt}
 use Rattle.pad.specs.Found.{Placed, Named}
 use Rattle.gather.specs.EventPlaces.{PlaceIs, FoundIs, EventPlacesAre}
@@ -57,12 +59,15 @@ pub unique-event-places : (codes kinds names renames : List ℕ) (renamed hasbut
     → One (EventPlacesAre codes kinds names renames renamed hasbutton hasaxis flags p name own)
 unique-event-places codes kinds names renames renamed hasbutton hasaxis flags p name own = one-owed _ (λ r w. w .is)
 
+-- ---- down: a place, one past the last where none is down
+
+pub unique-lowest : (bits : ℕ) → One (λ (r : ℕ). (r ≡ lowestOf bits) × (r ≤ placesPerPad))
+unique-lowest bits = one-owed _ (λ r w. w .0)
+
 -- ---- hats, filters: what they give, and how many events they queue at most
 
 pub unique-dpad : (v : View) (e : Event) → One (ConvertedIs v e)
 unique-dpad v e = one-owed _ (λ r w. w .is)
-
--- ---- repeat: the first due place, and that the button there is due
 
 -- ---- turn: a place of the ring
 
