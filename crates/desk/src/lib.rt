@@ -5,7 +5,6 @@ ghost use mathlib.Core.Path.{_≡_};
 ghost use mathlib.Core.Bool.{Bool};
 ghost use mathlib.Core.List.{List};
 ghost use Prim.Native.Nat.{ℕ, _<_};
-ghost use lib.ListN.{set};
 ghost use lib.Ieee.{Float};
 ghost use Rattle.rules.specs.Names.{padLimit};
 ghost use Rattle.rules.specs.Calls.{newOf, registerOf, renameRefusal, renameOf};
@@ -106,22 +105,6 @@ pub fn new_hub(
 
 // ---- register
 
-// Past the end nothing is set.
-fn set_in(numbers: &mut [u8], at: usize, v: u8)
-    ensures { λ _. ⌜ now (numbers .exit) ≡ set (now (numbers .entry)) at v ⌝ }
-{
-    if at < numbers.len() {
-        numbers[at] = v;
-    }
-}
-
-// A number of a pad's.
-fn set_pad(numbers: &mut [u8; 4], p: u8, v: u8)
-    ensures { λ _. ⌜ now (numbers .exit) ≡ set (now (numbers .entry)) p v ⌝ }
-{
-    set_in(numbers, p as usize, v)
-}
-
 // The head with one pad more.
 fn with_pad(head: Head, p: u8, hats: u8, count: u8, converts: bool) -> Head
     requires { ⌜ p < padLimit ⌝ }
@@ -136,9 +119,9 @@ fn with_pad(head: Head, p: u8, hats: u8, count: u8, converts: bool) -> Head
     h.held = held;
     h.heldaxes = heldaxes;
     h.pads = p + 1;
-    set_pad(&mut h.counts, p, count);
+    pad::set_pad(&mut h.counts, p, count);
     pad::mark_pad(&mut h.connected, p, true);
-    set_pad(&mut h.hats, p, hats);
+    pad::set_pad(&mut h.hats, p, hats);
     pad::mark_pad(&mut h.converts, p, converts);
     pad::mark_pad(&mut h.renamed, p, false);
     pad::clear_flags(
@@ -215,7 +198,7 @@ fn with_names(head: Head, p: u8, converts: bool) -> Head
 {
     let mut h = head;
     pad::mark_pad(&mut h.renamed, p, true);
-    set_pad(&mut h.newhats, p, 0);
+    pad::set_pad(&mut h.newhats, p, 0);
     pad::mark_pad(&mut h.newconverts, p, converts);
     h
 }

@@ -16,11 +16,11 @@ const MOST: u8 = 52;
 
 // ---- how a record reads with an event, beside how it read before: one number, since the pump hands it on
 
-pub const CEASES: u8 = 0;
+const CEASES: u8 = 0;
 
 pub const STILL: u8 = 1;
 
-pub const BEGINS: u8 = 2;
+const BEGINS: u8 = 2;
 
 // Whether the record begins or ceases to read pressed, or does neither.
 pub fn change(was: bool, is: bool) -> u8
@@ -92,14 +92,6 @@ fn none_in(numbers: &mut [u64], p: usize)
     }
 }
 
-fn zero_in(numbers: &mut [u8], p: usize)
-    ensures { λ _. ⌜ now (numbers .exit) ≡ set (now (numbers .entry)) p 0 ⌝ }
-{
-    if p < numbers.len() {
-        numbers[p] = 0;
-    }
-}
-
 // ---- the summary
 
 // Moves the bit and the counts of place k, where its record begins or ceases to read pressed. The element's kind is asked for only there.
@@ -131,10 +123,9 @@ pub fn clear(down: &mut [u64; 4], held: &mut [u8; 4], heldaxes: &mut [u8; 4], pa
     ensures { λ _. ⌜ Cleared (now (down .entry)) (now (held .entry)) (now (heldaxes .entry)) pad
         (now (down .exit)) (now (held .exit)) (now (heldaxes .exit)) ⌝ }
 {
-    let p = pad as usize;
-    none_in(down, p);
-    zero_in(held, p);
-    zero_in(heldaxes, p);
+    none_in(down, pad as usize);
+    pad::set_pad(held, pad, 0);
+    pad::set_pad(heldaxes, pad, 0);
 }
 
 // Nothing of a pad is down once it joins.

@@ -247,6 +247,21 @@ pub fn mark_pad(marks: &mut [bool; 4], pad: u8, v: bool)
     mark_in(marks, pad as usize, v)
 }
 
+fn set_in(numbers: &mut [u8], at: usize, v: u8)
+    ensures { λ _. ⌜ now (numbers .exit) ≡ set (now (numbers .entry)) at v ⌝ }
+{
+    if at < numbers.len() {
+        numbers[at] = v;
+    }
+}
+
+// Sets a pad's number; past the end nothing changes.
+pub fn set_pad(numbers: &mut [u8; 4], pad: u8, v: u8)
+    ensures { λ _. ⌜ now (numbers .exit) ≡ set (now (numbers .entry)) pad v ⌝ }
+{
+    set_in(numbers, pad as usize, v)
+}
+
 // The n marks from start on are taken off, as far as there are any.
 fn clear_in(marks: &mut [bool], start: usize, n: usize)
     ensures { λ r. ⌜ now (marks .exit) ≡ clearedOf (now (marks .entry)) start n ⌝ }

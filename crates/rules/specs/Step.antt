@@ -76,7 +76,7 @@ renamedAfter renamed p kind = cond (eqb kind kindConnected) (set renamed p false
 unfoldable pub marksCleared : ℕ → ℕ → ℕ
 marksCleared kind n = cond (eqb kind kindConnected) n 0
 
--- and nothing of the pad is down: one of its numbers in the summary
+-- and nothing of the pad is down: each of its three numbers in the summary is 0
 unfoldable pub downCleared : List ℕ → ℕ → ℕ → List ℕ
 downCleared numbers p kind = cond (eqb kind kindConnected) (set numbers p 0) numbers
 
