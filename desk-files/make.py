@@ -52,6 +52,7 @@ SHEETS = {
     'none': b'',
     'cut': b'\0',
     'count-off': b'\0\x16' + sheet(0, HAT)[2:],
+    'hats-7': sheet(7, HAT),
     'hats-16': sheet(16, HAT),
     'name-twice': sheet(0, [button(BTN_SOUTH, SOUTH), button(BTN_EAST, SOUTH)]),
 }

@@ -3,7 +3,7 @@
  * A hub is one struct, `copperyarn_hub`, of some 16 kilobytes, wherever you put it: a static, a local, a part of your own. Every call takes a pointer to it.
  * No call allocates, none copies the hub, none keeps a pointer. Give a hub of any bytes to `copperyarn_new`; then describe each pad by its sheet
  * (`copperyarn_register`), hand batches of raw records to `copperyarn_pump`, read the events that it writes, 22 bytes each, and ask for the state in between.
- * Every call ends with an answer for every input: bad input is refused by a number from 1 to 16 (`copperyarn_sentence` says it in words), and 0 is served.
+ * Every call ends with an answer for every input: bad input is refused by a number, 1 to 16 or 29 (`copperyarn_sentence` says it in words), and 0 is served.
  * A refusal leaves the hub and all lent bytes as they were, except in the pump, where the steps before it stand, and in `copperyarn_new`.
  * A hub is not safe for threads by itself: one call at a time on one hub (queries may run beside queries). Nothing is shared between two hubs.
  * Bytes that are lent must not overlap the hub, nor a pump's batch its out buffer; where a size is 0 the pointer may be NULL.
@@ -106,7 +106,8 @@ enum copperyarn_reason {
     EACH(13, WAITING, "caller's insert while 16 or more wait")                                                                          \
     EACH(14, TOO_LONG, "batch or out buffer too long")                                                                                  \
     EACH(15, REPEAT, "repeat settings out of limits")                                                                                   \
-    EACH(16, NAME, "query by a byte that is no name of the sort asked, Unknown included")
+    EACH(16, NAME, "query by a byte that is no name of the sort asked, Unknown included")                                               \
+    EACH(29, PARTIAL_HATS, "hats map one to three directions, which only an archived sheet may")
 
 #define COPPERYARN_NUMBERED(number, name, sentence) COPPERYARN_REFUSED_##name = number,
 enum copperyarn_refusal { COPPERYARN_REFUSALS(COPPERYARN_NUMBERED) COPPERYARN_SERVED = 0 };
@@ -246,10 +247,19 @@ static inline uint8_t copperyarn_new(copperyarn_hub *hub, float pressed, float r
     return done.refusal;
 }
 
-/* A pad from its sheet, 5 bytes and 18 for each element; pads count up from 0, and it is connected at once.
- * Answers the pad's number, or refuses 2, 3, 4, 5 in this order. */
+/* A pad from its sheet, 5 bytes and 18 for each element, whose hats map no direction or all four; pads count up from 0, and it is connected at once.
+ * Answers the pad's number, or refuses 2, 3, 4, 29, 5 in this order. */
 static inline copperyarn_pad_answer copperyarn_register(copperyarn_hub *hub, const uint8_t *sheet, size_t size) {
     copperyarn_lent_registered registered = copperyarn_lent_register(
+        hub->head, hub->codes, hub->kinds, hub->names, hub->hasbutton, hub->hasaxis, hub->values, hub->marks, copperyarn_lend(sheet, size), size);
+    hub->head = registered.head;
+    return registered.pad;
+}
+
+/* The same for a sheet of the archive, whose hats may be partial too, 1 to 14: they stay as they are, and `copperyarn_is_old` tells such a pad.
+ * Answers the pad's number, or refuses 2, 3, 4, 5 in this order. */
+static inline copperyarn_pad_answer copperyarn_register_archived(copperyarn_hub *hub, const uint8_t *sheet, size_t size) {
+    copperyarn_lent_registered registered = copperyarn_lent_register_archived(
         hub->head, hub->codes, hub->kinds, hub->names, hub->hasbutton, hub->hasaxis, hub->values, hub->marks, copperyarn_lend(sheet, size), size);
     hub->head = registered.head;
     return registered.pad;

@@ -145,6 +145,9 @@ copperyarn_lent_done copperyarn_lent_new(
 copperyarn_lent_registered copperyarn_lent_register(
     copperyarn_head head, uint32_t *codes, uint8_t *kinds, uint8_t *names, bool *hasbutton, bool *hasaxis, float *values, bool *marks,
     const uint8_t *sheet, size_t size);
+copperyarn_lent_registered copperyarn_lent_register_archived(
+    copperyarn_head head, uint32_t *codes, uint8_t *kinds, uint8_t *names, bool *hasbutton, bool *hasaxis, float *values, bool *marks,
+    const uint8_t *sheet, size_t size);
 copperyarn_lent_done copperyarn_lent_rename(
     copperyarn_head head, const uint32_t *codes, const uint8_t *kinds, uint8_t *renames, uint8_t pad, const uint8_t *list, size_t size);
 
@@ -196,6 +199,7 @@ copperyarn_number_answer copperyarn_lent_axis_or_btn_name(
 copperyarn_number_answer copperyarn_lent_code_of_name(
     copperyarn_head head, const uint32_t *codes, const uint8_t *names, const uint8_t *renames, uint8_t pad, uint8_t name);
 copperyarn_truth_answer copperyarn_lent_is_connected(copperyarn_head head, uint8_t pad);
+copperyarn_truth_answer copperyarn_lent_is_old(copperyarn_head head, uint8_t pad);
 copperyarn_down_answer copperyarn_lent_down(copperyarn_head head, uint8_t pad);
 copperyarn_number_answer copperyarn_lent_lowest_pressed(copperyarn_head head, const uint32_t *codes, uint8_t pad);
 uint8_t copperyarn_lent_waiting(copperyarn_head head);

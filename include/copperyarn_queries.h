@@ -79,6 +79,10 @@ static inline copperyarn_truth_answer copperyarn_is_connected(const copperyarn_h
     return copperyarn_lent_is_connected(hub->head, pad);
 }
 
+/* Whether a pad is old: it came by `copperyarn_register_archived` with partial hats, and has them. New names clear it until the pad's next Connected.
+ * Refuses 6. */
+static inline copperyarn_truth_answer copperyarn_is_old(const copperyarn_hub *hub, uint8_t pad) { return copperyarn_lent_is_old(hub->head, pad); }
+
 /* What is down on a pad: how many of its button records are pressed, directions that its sheet does not list among them, and whether an axis element's is.
  * Connected leaves nothing down, Disconnected and new names leave all. It is kept with the records and not counted here: ask it every frame.
  * Refuses 6. */

@@ -1,5 +1,5 @@
 #!/usr/bin/env python3
-"""A reader of 01's byte forms, written from document 01 alone and from no program.
+"""A reader of 01's byte forms, written from document 01 and, for new sheets, from W-212 of document 02; from no program.
 
     python3 oracle/reader.py make [FOLDER]
 
@@ -7,10 +7,11 @@ writes stdin and stdout (those of crates/compare_forms if no folder is named): g
 events, each with the pads that it meets, and this reader's answer to each. Readers in other languages are compared with
 that list.
 
-A case is a kind (1 a sheet alone, 2 a record, 3 an event given to update, 4 an event given to insert), the length of
-its payload in 4 bytes, and the payload. For 2 to 4 it opens with the number of pads (1 byte) and each pad's sheet (its
-length in 2 bytes, its bytes; all of them good), for 4 the number of waiting events (1 byte) follows; the rest is the
-record, never longer than 21 bytes, or the event. An answer is `SHEET n`, `RECORD n` or `EVENT n`, n the refusal or ok.
+A case is a kind (1 a sheet alone, given to the archived call, 2 a record, 3 an event given to update, 4 an event given
+to insert, 5 a sheet alone, given to the plain call), the length of its payload in 4 bytes, and the payload. For 2 to 4 it
+opens with the number of pads (1 byte) and each pad's sheet (its length in 2 bytes, its bytes; all of them such as the
+archived call takes), for 4 the number of waiting events (1 byte) follows; the rest is the record, never longer than 21
+bytes, or the event. An answer is `SHEET n`, `RECORD n` or `EVENT n`, n the refusal or ok.
 """
 
 import os
@@ -43,8 +44,8 @@ def element_breaks_a_rule(element):
     return not inside or (deadzone > DEADZONE_HIGH and deadzone != NO_DEADZONE)
 
 
-def judge_sheet(sheet):
-    """Sheet order: 3, 4, 5. (2 is about the hub.)"""
+def judge_sheet(sheet, archived):
+    """Sheet order: 3, 4, 5; of a new sheet, one that is not archived, 29 after 4. (2 is about the hub.)"""
     if len(sheet) < 5 or int.from_bytes(sheet[:2], "big") != len(sheet) - 2:
         return 3
     if sheet[2] != 1 or sheet[4] > 48 or len(sheet) != 5 + 18 * sheet[4]:
@@ -55,6 +56,8 @@ def judge_sheet(sheet):
     codes = [element[0] for element in elements]
     if any(codes[i] >= codes[i + 1] for i in range(len(codes) - 1)):
         return 4
+    if not archived and sheet[3] not in (0, 15):
+        return 29
     names = [element[2] for element in elements if element[2] != 255]
     return 5 if len(names) != len(set(names)) else 0
 
@@ -226,6 +229,28 @@ def sheet_cases():
             yield sheet_bytes(0, FULL[:given], size=size, count=3 + 18 * size)
 
 
+def new_sheet_cases():
+    """For the plain call: every hats byte, alone and with each fault that comes before 29 or behind it."""
+    yield from GOOD_SHEETS
+    yield from (sheet_bytes(hats, [BUTTON, HAT]) for hats in range(256))
+    twin, twins = (6, 1, 1, 0, 0, 0), [(5, 1, 1, 0, 0, 0), (6, 1, 1, 0, 0, 0)]
+    for low in range(16):
+        for hats in (low, 16 + low, 128 + low):
+            yield sheet_bytes(hats, [])
+            yield sheet_bytes(hats, twins)  # 29 before 5
+            yield sheet_bytes(hats, [(5, 1, 20, 0, 0, 0), twin])  # 4 before 29
+            yield sheet_bytes(hats, twins + [twin])  # a code and a name twice
+            yield sheet_bytes(hats, twins, count=40)  # 3 before all
+    for wrong in wrong_elements():
+        yield from (sheet_bytes(hats, [wrong]) for hats in (0, 6, 15, 22))
+        yield sheet_bytes(9, [wrong, twin])
+    for name in sorted(SHEET_NAMES):
+        yield from (sheet_bytes(hats, [(6, 1, name, 0, 0, 0), (8, 2, name, 0, 1, 0)]) for hats in (0, 5, 15))
+    partial = sheet_bytes(6, [BUTTON])
+    yield from changed(partial, SWAPS)
+    yield from resized(partial)
+
+
 RECORD_FIELDS = dict(
     kind=(0, 1, 2, 3, 4, 5, 6),
     pad=(0, 1, 2, 3, 4, 255),
@@ -321,7 +346,7 @@ def cases():
     """Each case as kind, payload and answer line."""
     chance = Chance(20)
     for sheet in sheet_cases():
-        yield 1, sheet, "SHEET", judge_sheet(sheet)
+        yield 1, sheet, "SHEET", judge_sheet(sheet, archived=True)
     for pads, record in record_cases(chance):
         yield 2, with_pads(pads, record), "RECORD", judge_record(record, pads)
     for pads, event in event_cases(chance, 3000):
@@ -329,6 +354,8 @@ def cases():
     for pads, event in event_cases(chance, 3000):
         waiting = chance.among((0, 1, 15, 16, 17, 64))
         yield 4, with_pads(pads, event, waiting), "EVENT", judge_event(event, pads, waiting)
+    for sheet in new_sheet_cases():
+        yield 5, sheet, "SHEET", judge_sheet(sheet, archived=False)
 
 
 def make(folder):

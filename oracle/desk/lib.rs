@@ -4,6 +4,7 @@
 mod down;
 mod held;
 mod hub;
+mod old;
 mod own_loop;
 mod plan;
 mod pump;
@@ -14,6 +15,7 @@ mod translate;
 
 use crate::held::Held;
 use crate::hub::Hub;
+use crate::old::Old;
 use crate::own_loop::OwnLoop;
 use crate::plan::Plan;
 use crate::tilt::Calculation;
@@ -29,6 +31,7 @@ struct CrateDesk {
     registered: usize,
     hub: Hub,
     held: Held,
+    old: Old,
     own_loop: OwnLoop,
 }
 
@@ -41,6 +44,7 @@ pub fn open(settings: Settings, ahead: &[Operation<'_>], own_loop: bool) -> Box<
         registered: 0,
         hub: Hub::open(&settings, &plan, false, false),
         held: Held::default(),
+        old: Old::default(),
         own_loop: if own_loop { OwnLoop::open(&settings, &plan) } else { OwnLoop::absent() },
         plan,
     })
@@ -67,7 +71,8 @@ impl CrateDesk {
     fn answer(&mut self, operation: &Operation<'_>) -> Result<Vec<String>, u8> {
         Ok(match *operation {
             Operation::New(_) => unreachable!("`new` opens another desk"),
-            Operation::Register(bytes) => self.register(bytes)?,
+            Operation::Register(bytes) => self.register(|| Sheet::read(bytes))?,
+            Operation::RegisterArchived(bytes) => self.register_archived(bytes)?,
             Operation::Rename(pad, list) => self.rename(pad, list)?,
             Operation::Pump(call) => self.pump(&call),
             Operation::Update(bytes) => self.update(bytes)?,
@@ -85,6 +90,7 @@ impl CrateDesk {
             Operation::Stands(pad) => one(format!("STANDS {}", u8::from(self.hub.pad(self.pad(pad)?).is_connected()))),
             Operation::Down(pad) => one(down::down(&self.hub, &self.plan.pads, self.pad(pad)?)),
             Operation::LowestPressed(pad) => one(down::lowest(&self.hub, self.pad(pad)?)),
+            Operation::IsOld(pad) => one(self.old.line(&self.hub, self.pad(pad)?)),
             Operation::Waiting => one(format!("WAITING {}", self.hub.waiting())),
             Operation::Dump => self.dump(),
             Operation::Deadzone { x, y, threshold } => one(Calculation { x, y, threshold }.line()),
@@ -101,13 +107,21 @@ impl CrateDesk {
         }
     }
 
-    fn register(&mut self, bytes: &[u8]) -> Result<Vec<String>, u8> {
+    /// Either call: 2, then what its reading of the sheet refuses.
+    fn register(&mut self, read: impl FnOnce() -> Result<Sheet, u8>) -> Result<Vec<String>, u8> {
         if self.registered == MOST_PADS {
             return Err(refusal::FOUR_PADS);
         }
-        Sheet::read(bytes)?;
+        read()?;
         self.registered += 1;
         Ok(one(format!("PAD {}", self.registered - 1)))
+    }
+
+    fn register_archived(&mut self, bytes: &[u8]) -> Result<Vec<String>, u8> {
+        let lines = self.register(|| Sheet::read_archived(bytes))?;
+        let pad = self.registered - 1;
+        self.old.archived(pad, &self.plan.pads[pad]);
+        Ok(lines)
     }
 
     /// Rename: 6, 7, 3, 4, 5. Waiting events stay.
@@ -122,6 +136,7 @@ impl CrateDesk {
         for event in &waiting {
             self.hub.gilrs.insert_event(*event);
         }
+        self.old.renamed(pad);
         self.own_loop.rename(pad, &self.plan, list, waiting.len());
         Ok(one("RENAMED"))
     }
@@ -129,6 +144,7 @@ impl CrateDesk {
     fn pump(&mut self, call: &Pump<'_>) -> Vec<String> {
         let pads = &self.plan.pads[..self.registered];
         let done = pump::pump(&mut self.hub, &mut self.held, pads, &self.settings, call);
+        self.old.took(&done.records);
         self.own_loop.pump(&done);
         let mut lines = done.lines();
         if call.tilt {

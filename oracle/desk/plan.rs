@@ -48,7 +48,8 @@ impl Plan {
         for operation in operations {
             match *operation {
                 Operation::New(_) => break,
-                Operation::Register(bytes) => plan.add_sheet(bytes),
+                Operation::Register(bytes) => plan.add_sheet(Sheet::read(bytes)),
+                Operation::RegisterArchived(bytes) => plan.add_sheet(Sheet::read_archived(bytes)),
                 Operation::Rename(pad, list) => plan.add_rename(pad, list),
                 _ => (),
             }
@@ -56,9 +57,9 @@ impl Plan {
         plan
     }
 
-    fn add_sheet(&mut self, bytes: &[u8]) {
+    fn add_sheet(&mut self, read: Result<Sheet, u8>) {
         if self.pads.len() < MOST_PADS {
-            self.pads.extend(Sheet::read(bytes).ok());
+            self.pads.extend(read.ok());
         }
     }
 

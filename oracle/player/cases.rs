@@ -1,6 +1,7 @@
 //! Answers the list of byte-form cases that `reader.py` writes, by the player's own reading. Each case is a kind (1
-//! sheet, 2 record, 3 event for `update`, 4 event for insert), a payload length of 4 bytes, and the payload: for 2 to
-//! 4 the number of pads, each pad's sheet behind its length of 2 bytes, for 4 the number of waiting events, the bytes.
+//! sheet for the archived call, 2 record, 3 event for `update`, 4 event for insert, 5 sheet for the plain call), a payload
+//! length of 4 bytes, and the payload: for 2 to 4 the number of pads, each pad's sheet behind its length of 2 bytes, for 4
+//! the number of waiting events, the bytes.
 
 use reading::bytes::field;
 use reading::event::Event;
@@ -8,9 +9,10 @@ use reading::record::Record;
 use reading::sheet::Sheet;
 use reading::{refusal, INSERT_LIMIT};
 
-const SHEET: u8 = 1;
+const ARCHIVED_SHEET: u8 = 1;
 const RECORD: u8 = 2;
 const UPDATE: u8 = 3;
+const NEW_SHEET: u8 = 5;
 
 pub fn answers(bytes: &[u8]) -> String {
     let mut text = String::new();
@@ -26,7 +28,8 @@ pub fn answers(bytes: &[u8]) -> String {
 
 fn answer(kind: u8, payload: &[u8]) -> String {
     let (word, judged) = match kind {
-        SHEET => ("SHEET", Sheet::read(payload).map(|_| ())),
+        ARCHIVED_SHEET => ("SHEET", Sheet::read_archived(payload).map(|_| ())),
+        NEW_SHEET => ("SHEET", Sheet::read(payload).map(|_| ())),
         RECORD => {
             let (pads, bytes) = pads(payload);
             ("RECORD", Record::read(bytes, &pads).map(|_| ()))
@@ -59,7 +62,7 @@ fn pads(payload: &[u8]) -> (Vec<Sheet>, &[u8]) {
     let mut pads = Vec::new();
     for _ in 0..payload[0] {
         let end = 2 + field(rest, 0, 2) as usize;
-        pads.push(Sheet::read(&rest[2..end]).expect("a good sheet"));
+        pads.push(Sheet::read_archived(&rest[2..end]).expect("a good sheet"));
         rest = &rest[end..];
     }
     (pads, rest)

@@ -33,6 +33,13 @@ pub fn touched(lines: &[String]) -> BTreeSet<u8> {
     found
 }
 
+/// The pads of the Connected events that a pump wrote, from records and from the caller alike.
+pub fn connected(lines: &[String]) -> BTreeSet<u8> {
+    let word = event::WORDS[usize::from(event::CONNECTED)];
+    let words = lines.iter().map(|line| line.split(' ').collect::<Vec<_>>());
+    words.filter(|words| words[0] == word).map(|words| pad_in(words[1])).collect()
+}
+
 /// The place in a pump's answer.
 pub fn place(line: &str) -> usize {
     line.split(' ').rev().nth(2).and_then(|word| word.parse().ok()).expect("a place")

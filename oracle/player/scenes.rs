@@ -1,8 +1,10 @@
 //! Random scenarios. Each is played while it is made, so that a later pump can go on at the place where an earlier one
 //! stopped, and a repeat can be given back to `update`. What the requests ask for is drawn beside the rest, or draws no
 //! number: since when a button is held and what is down (`asks`), which pumps ask for their report, what is asked of the
-//! deadzone calculation. So the other operations of a seed are the same with these and without.
+//! deadzone calculation, by which call a sheet comes and what the archive has besides (`archive`). So the other operations
+//! of a seed are the same with these and without.
 
+mod archive;
 mod asks;
 
 use crate::lines;
@@ -11,10 +13,10 @@ use crate::play;
 use crate::random::Random;
 use crate::tilts;
 use crate::traffic::Traffic;
+use archive::Archive;
 use reading::bytes::put;
 use reading::event;
 use reading::record;
-use reading::sheet::Sheet;
 use reading::{scenario, Desk, LAST_TIME, LONGEST_BUFFER, LONGEST_REPEAT};
 
 struct Scene<'a> {
@@ -22,6 +24,8 @@ struct Scene<'a> {
     /// What operations 40 and 41 are drawn from, and what 38 and 39.
     aside: Random,
     looks: Random,
+    /// What operations 43 and 44 are drawn from, and what stands behind all else.
+    archive: Archive,
     desk: Option<Box<dyn Desk>>,
     bytes: Vec<u8>,
     traffic: Traffic,
@@ -33,16 +37,19 @@ struct Scene<'a> {
     place: usize,
 }
 
-/// One scenario, from its `new` to its last dump and what is asked of it; in some the sticks are watched behind that.
+/// One scenario, from its `new` to its last dump and what is asked of it; in some the sticks are watched behind that, or
+/// the archive is opened.
 pub fn scene(random: &mut Random) -> Vec<u8> {
     let aside = random.beside();
     let looks = aside.beside();
     let traffic = Traffic::new(random);
     let (sheets, renames) = pads::preparation(random);
+    let archive = Archive::new(looks.beside(), &sheets);
     let mut scene = Scene {
         random,
         aside,
         looks,
+        archive,
         desk: None,
         bytes: Vec::new(),
         traffic,
@@ -58,6 +65,7 @@ pub fn scene(random: &mut Random) -> Vec<u8> {
     for _ in 0..calls {
         scene.call();
         scene.calculate();
+        scene.stray();
     }
     scene.pump_rest();
     for _ in 0..scene.random.below(8) {
@@ -67,6 +75,7 @@ pub fn scene(random: &mut Random) -> Vec<u8> {
     if scene.desk.is_some() && scene.aside.chance(25) {
         scene.watch_sticks();
     }
+    scene.open_archive();
     scene.bytes
 }
 
@@ -91,8 +100,10 @@ impl Scene<'_> {
         // filters and updates mostly on, else filters alone more often than not
         payload.push(self.random.among(&[6, 7, 6, 7, 6, 7, 6, 7, 0, 1, 2, 3, 2, 3, 4, 5]));
         let mut ahead = Vec::new();
-        self.sheets.iter().for_each(|sheet| ahead.extend(scenario::write(scenario::REGISTER, sheet)));
-        self.renames.iter().for_each(|list| ahead.extend(scenario::write(scenario::RENAME, list)));
+        let sheets = self.sheets.iter().chain(&self.archive.sheets);
+        sheets.for_each(|sheet| ahead.extend(scenario::write(scenario::REGISTER_ARCHIVED, sheet)));
+        let renames = self.renames.iter().chain(&self.archive.renames);
+        renames.for_each(|list| ahead.extend(scenario::write(scenario::RENAME, list)));
         let operations = scenario::read(&ahead).expect("operations");
         let settings = scenario::Settings { pressed, released, flags: payload[8] };
         self.desk = play::open(settings, &operations, false);
@@ -106,11 +117,7 @@ impl Scene<'_> {
 
     fn register(&mut self) {
         if let Some(sheet) = self.sheets.pop() {
-            let lines = self.play(scenario::REGISTER, &sheet);
-            if lines.first().map_or(false, |line| line.starts_with("PAD")) {
-                self.ask_down(self.traffic.pads.len() as u8);
-                self.traffic.pads.extend(Sheet::read(&sheet).ok());
-            }
+            self.enrol(&sheet);
         }
     }
 
@@ -158,6 +165,7 @@ impl Scene<'_> {
         if let Some(list) = self.renames.pop() {
             self.play(scenario::RENAME, &list);
             self.ask_down(list[0]);
+            self.ask_old(list[0]);
         }
     }
 
@@ -257,6 +265,7 @@ impl Scene<'_> {
             let allowance = self.aside.among(&[1, 1, 1, 2, 3]);
             let lines = self.play_pump(scenario::PUMP_TILT, LONGEST_BUFFER, allowance);
             self.ask_down_of_pump(&lines);
+            self.ask_old_of_pump(&lines);
         }
     }
 

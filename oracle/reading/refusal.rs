@@ -1,4 +1,5 @@
-//! 01's table "Refusals by number", and those judgements that need no more than numbers.
+//! 01's table "Refusals by number" with those of the requests behind it, and the judgements that need no more than
+//! numbers.
 
 use crate::{LAST_TIME, LONGEST_REPEAT};
 
@@ -18,6 +19,8 @@ pub const QUEUE: u8 = 13;
 pub const BUFFER: u8 = 14;
 pub const REPEAT: u8 = 15;
 pub const NO_NAME: u8 = 16;
+/// W-212's.
+pub const PARTIAL_HATS: u8 = 29;
 
 /// "pressed <= released, either outside 0..1, or NaN": written so that NaN fails each test.
 pub fn thresholds_stand(pressed: f32, released: f32) -> bool {

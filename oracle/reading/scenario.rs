@@ -32,6 +32,8 @@ pub const LOWEST_PRESSED: u8 = 39;
 pub const PUMP_TILT: u8 = 40;
 pub const DEADZONE: u8 = 41;
 pub const HELD_SINCE: u8 = 42;
+pub const REGISTER_ARCHIVED: u8 = 43;
+pub const IS_OLD: u8 = 44;
 
 /// Bits of the flags byte of `new`.
 pub const Y_REVERSED: u8 = 1;
@@ -65,6 +67,8 @@ pub struct Pump<'a> {
 pub enum Operation<'a> {
     New(Settings),
     Register(&'a [u8]),
+    /// A sheet of the archive, W-212's.
+    RegisterArchived(&'a [u8]),
     Rename(u8, &'a [u8]),
     Pump(Pump<'a>),
     Update(&'a [u8]),
@@ -85,6 +89,8 @@ pub enum Operation<'a> {
     /// What is down on a pad, W-213's.
     Down(u8),
     LowestPressed(u8),
+    /// Whether a pad is old, W-212's.
+    IsOld(u8),
     Waiting,
     Dump,
     /// The deadzone calculation alone; none of the three is NaN.
@@ -119,6 +125,7 @@ fn read_one(opcode: u8, payload: &[u8]) -> Option<Operation<'_>> {
             flags: payload[8],
         }),
         (REGISTER, _) => Operation::Register(payload),
+        (REGISTER_ARCHIVED, _) => Operation::RegisterArchived(payload),
         (RENAME, 1..) => Operation::Rename(payload[0], &payload[1..]),
         (PUMP | PUMP_TILT, 10..) => read_pump(payload, opcode == PUMP_TILT),
         (UPDATE, _) => Operation::Update(payload),
@@ -139,6 +146,7 @@ fn read_one(opcode: u8, payload: &[u8]) -> Option<Operation<'_>> {
         (STANDS, 1) => Operation::Stands(payload[0]),
         (DOWN, 1) => Operation::Down(payload[0]),
         (LOWEST_PRESSED, 1) => Operation::LowestPressed(payload[0]),
+        (IS_OLD, 1) => Operation::IsOld(payload[0]),
         (WAITING, 0) => Operation::Waiting,
         (DUMP, 0) => Operation::Dump,
         (DEADZONE, 12) => return read_deadzone(payload),

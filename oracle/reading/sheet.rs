@@ -1,4 +1,4 @@
-//! Pad sheets and rename lists.
+//! Pad sheets, new ones and those of the archive, and rename lists.
 
 use crate::bytes::{field, field32, put};
 use crate::{names, refusal};
@@ -63,8 +63,22 @@ impl Element {
 }
 
 impl Sheet {
-    /// Reads a sheet, or answers with the first of 3, 4, 5 that applies.
+    /// Reads a new sheet, or answers with the first of 3, 4, 29, 5 that applies.
     pub fn read(bytes: &[u8]) -> Result<Sheet, u8> {
+        let sheet = Sheet::read_elements(bytes)?;
+        if sheet.is_partial() {
+            return Err(refusal::PARTIAL_HATS);
+        }
+        sheet.named_once()
+    }
+
+    /// Reads a sheet of the archive, whose hats may be partial: 3, 4, 5, as 01 has it.
+    pub fn read_archived(bytes: &[u8]) -> Result<Sheet, u8> {
+        Sheet::read_elements(bytes)?.named_once()
+    }
+
+    /// 3, then 4.
+    fn read_elements(bytes: &[u8]) -> Result<Sheet, u8> {
         if bytes.len() < HEAD
             || bytes.len() != 2 + field(bytes, 0, 2) as usize
             || bytes[2] != 1
@@ -78,11 +92,20 @@ impl Sheet {
         if bytes[3] > LARGEST_HATS || !rising || !elements.iter().all(Element::stands) {
             return Err(refusal::ELEMENT);
         }
-        let sheet = Sheet { hats: bytes[3], elements };
-        if names::stands_twice(&sheet.names()) {
+        Ok(Sheet { hats: bytes[3], elements })
+    }
+
+    /// 5.
+    fn named_once(self) -> Result<Sheet, u8> {
+        if names::stands_twice(&self.names()) {
             return Err(refusal::NAME_TWICE);
         }
-        Ok(sheet)
+        Ok(self)
+    }
+
+    /// "one to three hat directions mapped": neither 0 nor 15 "in the low four bits".
+    pub fn is_partial(&self) -> bool {
+        (1..=3).contains(&(self.hats & LARGEST_HATS).count_ones())
     }
 
     pub fn to_bytes(&self) -> Vec<u8> {

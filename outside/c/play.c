@@ -1,7 +1,7 @@
 /* Plays the oracle's scenario form (oracle/README.md) on the hub through copperyarn.h, every call of it, and prints the answers: play FILE. Beside that it
- * checks of each call that a refusal leaves the hub as it was (but in new and the pump), and that what is down is what its records tell; of each pump that it
- * writes its events and no byte more. A hub holds junk before `new`, and what a call reads stands in blocks of just its size, so that a memory checker sees a
- * step beside them. */
+ * checks of each call that a refusal leaves the hub as it was (but in new and the pump), that what is down is what its records tell, and that a pad is old
+ * where its present hats are partial; of each pump that it writes its events and no byte more. A hub holds junk before `new`, and what a call reads stands in
+ * blocks of just its size, so that a memory checker sees a step beside them. */
 #include "test.h"
 
 static copperyarn_hub hub, before;
@@ -50,8 +50,8 @@ static void begin(const uint8_t *bytes) {
         refused(refusal);
 }
 
-static void enrol(const uint8_t *bytes, size_t size) {
-    copperyarn_pad_answer answer = copperyarn_register(&hub, bytes, size);
+/* The line of either registration. */
+static void enrolled(copperyarn_pad_answer answer) {
     if (answer.refusal != 0)
         done(answer.refusal, "");
     else
@@ -195,11 +195,19 @@ static void check_down(uint8_t pad) {
     CHECK(code.refusal == 0 && code.known == lowest.known && code.number == lowest.number);
 }
 
+static uint8_t present_hats(uint8_t pad) { return hub.head.renamed[pad] ? hub.head.newhats[pad] : hub.head.hats[pad]; }
+
+/* Holds what the hub says of an old pad to the hats that it has at present. */
+static void check_old(uint8_t pad) {
+    copperyarn_truth_answer told = copperyarn_is_old(&hub, pad);
+    CHECK(told.refusal == 0 && told.is == (present_hats(pad) >= 1 && present_hats(pad) <= 14));
+}
+
 /* All that the pads' state holds. Of the hub's own fields it reads those that no query tells. */
 static void dump(void) {
     char word[16];
     for (uint8_t pad = 0; pad < hub.head.pads; pad++) {
-        printf("DUMP %d %d %d\n", pad, copperyarn_is_connected(&hub, pad).is, hub.head.renamed[pad] ? hub.head.newhats[pad] : hub.head.hats[pad]);
+        printf("DUMP %d %d %d\n", pad, copperyarn_is_connected(&hub, pad).is, present_hats(pad));
         for (size_t i = 52u * pad; i < 52u * pad + 52; i++) {
             snprintf(word, sizeof word, "B %08" PRIx32, hub.codes[i]);
             if (hub.hasbutton[i]) button(word, copperyarn_button_data_by_code(&hub, pad, hub.codes[i]));
@@ -236,6 +244,7 @@ static void ask(uint8_t opcode, const uint8_t *bytes, size_t size) {
     case 38: down(copperyarn_down(&hub, pad)); break;
     case 39: code_of(copperyarn_lowest_pressed(&hub, pad)); break;
     case 42: since(copperyarn_button_data_by_code(&hub, pad, code)); break;
+    case 44: truth("IS", copperyarn_is_old(&hub, pad)); break;
     default: CHECK(false);
     }
 }
@@ -248,7 +257,7 @@ static void play(uint8_t opcode, const uint8_t *bytes, size_t size) {
     memcpy(&before, &hub, sizeof hub);
     switch (opcode) {
     case 1: begin(bytes); break;
-    case 2: enrol(bytes, size); break;
+    case 2: enrolled(copperyarn_register(&hub, bytes, size)); break;
     case 3: done(copperyarn_rename(&hub, bytes[0], bytes + 1, size - 1), "RENAMED"); break;
     case 4: pump(bytes, size); break;
     case 5: done(copperyarn_update(&hub, bytes, size), "UPDATED"); break;
@@ -261,11 +270,15 @@ static void play(uint8_t opcode, const uint8_t *bytes, size_t size) {
     case 24: dump(); break;
     case 40: printf("TILT %s\n", TILTS[pump(bytes, size)]); break;
     case 41: calculate(bytes); break;
+    case 43: enrolled(copperyarn_register_archived(&hub, bytes, size)); break;
     default: ask(opcode, bytes, size);
     }
     if (opcode >= 8 && opcode <= 10) printf("COUNTER %" PRIu64 "\n", copperyarn_counter(&hub));
-    if ((opcode >= 11 && opcode != 40) || opcode == 7) CHECK(same_hub(&hub, &before));
-    for (uint8_t pad = 0; standing && pad < hub.head.pads; pad++) check_down(pad);
+    if ((opcode >= 11 && opcode != 40 && opcode != 43) || opcode == 7) CHECK(same_hub(&hub, &before));
+    for (uint8_t pad = 0; standing && pad < hub.head.pads; pad++) {
+        check_down(pad);
+        check_old(pad);
+    }
 }
 
 int main(int argc, char **argv) {

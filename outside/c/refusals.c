@@ -37,6 +37,7 @@ static void new_hub(void) {
     CHECK(copperyarn_new(&hub, 1.0f, 0.0f, false, true, false) == 0 && !hub.head.reversed && hub.head.filters && !hub.head.updates);
 }
 
+/* 4 in its other ways, each before 29. */
 static void element_rules(void) {
     static const copperyarn_element bad[] = {
         {SOUTH, 0, 1, 0, 0, 0}, {SOUTH, 3, 1, 0, 0, 0}, {SOUTH, 1, 0, 0, 0, 0}, {SOUTH, 1, 20, 0, 0, 0}, {SOUTH, 1, 32, 0, 0, 0}, {SOUTH, 1, 41, 0, 0, 0},
@@ -45,15 +46,15 @@ static void element_rules(void) {
     };
     uint8_t sheet[COPPERYARN_SHEET_MOST];
     for (size_t i = 0; i < sizeof bad / sizeof *bad; i++)
-        REFUSES(COPPERYARN_REFUSED_ELEMENT, copperyarn_register(&hub, sheet, copperyarn_write_sheet(sheet, 0, bad + i, 1)).refusal);
+        REFUSES(COPPERYARN_REFUSED_ELEMENT, copperyarn_register(&hub, sheet, copperyarn_write_sheet(sheet, 6, bad + i, 1)).refusal);
     const copperyarn_element falling[2] = {ELEMENTS[1], ELEMENTS[0]};
-    REFUSES(COPPERYARN_REFUSED_ELEMENT, copperyarn_register(&hub, sheet, copperyarn_write_sheet(sheet, 0, falling, 2)).refusal);
+    REFUSES(COPPERYARN_REFUSED_ELEMENT, copperyarn_register(&hub, sheet, copperyarn_write_sheet(sheet, 6, falling, 2)).refusal);
 }
 
 static void register_pad(void) {
     copperyarn_element twice[2] = {{SOUTH, 1, 1, 0, 0, 0}, {SOUTH + 1, 1, 1, 0, 0, 0}};
     uint8_t sheet[COPPERYARN_SHEET_MOST];
-    size_t size = copperyarn_write_sheet(sheet, 16, twice, 2);
+    size_t size = copperyarn_write_sheet(sheet, 22, twice, 2);
     sheet[2] = 2;
     fresh(&hub, true);
     for (int pad = 0; pad < COPPERYARN_PADS; pad++) enrol(&hub, ELEMENTS, 3);
@@ -62,6 +63,8 @@ static void register_pad(void) {
     REFUSES(COPPERYARN_REFUSED_SHEET, copperyarn_register(&hub, sheet, size).refusal);
     sheet[2] = 1;
     REFUSES(COPPERYARN_REFUSED_ELEMENT, copperyarn_register(&hub, sheet, size).refusal);
+    sheet[3] = 6;
+    REFUSES(COPPERYARN_REFUSED_PARTIAL_HATS, copperyarn_register(&hub, sheet, size).refusal);
     sheet[3] = 15;
     REFUSES(COPPERYARN_REFUSED_NAME_TWICE, copperyarn_register(&hub, sheet, size).refusal);
     /* 3 in its other ways: the size, the count, n */
@@ -81,6 +84,29 @@ static void register_pad(void) {
     hub.hasbutton[0] = hub.hasaxis[1] = true;
     enrol(&hub, ELEMENTS, 3);
     CHECK(!hub.hasbutton[0] && !hub.hasaxis[1]);
+}
+
+/* A sheet of the archive: the same rungs without 29. */
+static void register_archived_pad(void) {
+    copperyarn_element twice[2] = {{SOUTH, 1, 1, 0, 0, 0}, {SOUTH + 1, 1, 1, 0, 0, 0}};
+    uint8_t sheet[COPPERYARN_SHEET_MOST];
+    size_t size = copperyarn_write_sheet(sheet, 22, twice, 2);
+    sheet[2] = 2;
+    fresh(&hub, true);
+    for (int pad = 0; pad < COPPERYARN_PADS; pad++) enrol(&hub, ELEMENTS, 3);
+    REFUSES(COPPERYARN_REFUSED_PADS, copperyarn_register_archived(&hub, sheet, size).refusal);
+    fresh(&hub, true);
+    REFUSES(COPPERYARN_REFUSED_SHEET, copperyarn_register_archived(&hub, sheet, size).refusal);
+    REFUSES(COPPERYARN_REFUSED_SHEET, copperyarn_register_archived(&hub, NULL, 0).refusal);
+    sheet[2] = 1;
+    REFUSES(COPPERYARN_REFUSED_ELEMENT, copperyarn_register_archived(&hub, sheet, size).refusal);
+    sheet[3] = 6;
+    REFUSES(COPPERYARN_REFUSED_NAME_TWICE, copperyarn_register_archived(&hub, sheet, size).refusal);
+    twice[1].name = COPPERYARN_NO_NAME;
+    size = copperyarn_write_sheet(sheet, 6, twice, 2);
+    REFUSES(COPPERYARN_REFUSED_PARTIAL_HATS, copperyarn_register(&hub, sheet, size).refusal);
+    copperyarn_pad_answer answer = copperyarn_register_archived(&hub, sheet, size);
+    CHECK(answer.refusal == 0 && answer.pad == 0 && copperyarn_is_connected(&hub, 0).is && copperyarn_is_old(&hub, 0).is);
 }
 
 static void rename_pad(void) {
@@ -226,10 +252,12 @@ static void queries(void) {
     CHECK(copperyarn_button_data_by_code(&hub, 4, SOUTH).refusal == number && copperyarn_axis_data_by_code(&hub, 1, STICK).refusal == number);
     CHECK(copperyarn_deadzone_threshold(&hub, 1, STICK).refusal == number && copperyarn_axis_or_btn_name(&hub, 1, STICK).refusal == number);
     CHECK(copperyarn_is_connected(&hub, 1).refusal == number && copperyarn_is_connected(&hub, 0).is);
+    CHECK(copperyarn_is_old(&hub, 0).refusal == 0 && !copperyarn_is_old(&hub, 0).is);
     for (int pad = 1; pad <= UINT8_MAX; pad++) {
         copperyarn_down_answer down = copperyarn_down(&hub, (uint8_t)pad);
         copperyarn_number_answer lowest = copperyarn_lowest_pressed(&hub, (uint8_t)pad);
         CHECK(down.refusal == number && down.count == 0 && !down.axis && lowest.refusal == number && !lowest.known && lowest.number == 0);
+        CHECK(copperyarn_is_old(&hub, (uint8_t)pad).refusal == number && !copperyarn_is_old(&hub, (uint8_t)pad).is);
     }
     CHECK(copperyarn_down(&hub, 0).count == 1 && !copperyarn_down(&hub, 0).axis && copperyarn_lowest_pressed(&hub, 0).number == SOUTH);
     CHECK(copperyarn_is_pressed(&hub, 0, COPPERYARN_BUTTON_SOUTH).is && copperyarn_is_pressed_by_code(&hub, 0, SOUTH).is);
@@ -247,15 +275,20 @@ static void queries(void) {
     CHECK(copperyarn_button_data_by_code(&hub, 0, NOWHERE).since == 0 && copperyarn_button_data_by_code(&hub, 4, SOUTH).since == 0);
 }
 
+/* Each number from 0 to 16, and 29, has a sentence of its own; no other has one. */
 static void sentences(void) {
-    for (int a = 0; a <= 17; a++)
-        for (int b = 0; b < a; b++) CHECK(strcmp(copperyarn_sentence((uint8_t)a), copperyarn_sentence((uint8_t)b)) != 0);
-    CHECK(strcmp(copperyarn_sentence(6), "pad not registered") == 0 && copperyarn_sentence(17) == copperyarn_sentence(255));
+    for (int a = 0; a <= UINT8_MAX; a++) {
+        bool spoken = a <= COPPERYARN_REFUSED_NAME || a == COPPERYARN_REFUSED_PARTIAL_HATS;
+        CHECK(spoken == (strcmp(copperyarn_sentence((uint8_t)a), "no refusal") != 0));
+        for (int b = 0; b < a; b++) CHECK(!spoken || strcmp(copperyarn_sentence((uint8_t)a), copperyarn_sentence((uint8_t)b)) != 0);
+    }
+    CHECK(strcmp(copperyarn_sentence(6), "pad not registered") == 0 && COPPERYARN_REFUSED_PARTIAL_HATS == 29);
 }
 
 int main(void) {
     new_hub();
     register_pad();
+    register_archived_pad();
     rename_pad();
     pump_records();
     pump_call();

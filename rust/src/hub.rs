@@ -1,7 +1,7 @@
 //! The hub: setting it up, and the calls that change it. The queries stand in `queries`, the event loop in `feed`.
 
 use crate::event::Event;
-use crate::layout::Fields;
+use crate::layout::{Fields, Pad};
 use crate::names::{Name, PadId};
 use crate::refusal::{judged, Refusal};
 use crate::sheet::Sheet;
@@ -104,18 +104,40 @@ impl Hub {
         Ok(Hub { fields })
     }
 
-    /// Adds a pad, connected, as its sheet says. There is no event of it. Refuses 2, 3, 4, 5.
+    /// Adds a pad, connected, as its sheet says, which maps no hat direction or all four. There is no event of it. Refuses 2, 3, 4, 29, 5.
     pub fn register(&mut self, sheet: &Sheet) -> Result<PadId, Refusal> {
-        let registered = self.fields.register(sheet.as_bytes());
-        judged(registered.refusal)?;
-        Ok(PadId(registered.pad))
+        registered(self.fields.register(sheet.as_bytes()))
     }
 
-    /// New names for a pad's elements, one for each, by rising code; gilrs's `set_mapping`. They hold until the pad's next Connected. Refuses 6, 7, 3, 4, 5.
+    /// Adds a pad by a sheet of the archive, whose hats may also map one to three directions. Such a pad keeps them as they are, and [is old](Hub::is_old);
+    /// any other is as [`register`](Hub::register) makes it. Refuses 2, 3, 4, 5.
+    ///
+    /// ```
+    /// use copperyarn::{Axis, Code, Hub, Refusal, Settings, Sheet};
+    ///
+    /// let mut hub = Hub::new(Settings::default())?;
+    /// let sheet = Sheet::builder().axis(Code::abs(0x10), Axis::DPadX, -1..=1).hats(12).build();
+    /// assert_eq!(hub.register(&sheet), Err(Refusal::PartialHats));
+    /// let pad = hub.register_archived(&sheet)?;
+    /// assert!(hub.is_old(pad)?);
+    /// # Ok::<(), copperyarn::Refusal>(())
+    /// ```
+    pub fn register_archived(&mut self, sheet: &Sheet) -> Result<PadId, Refusal> {
+        registered(self.fields.register_archived(sheet.as_bytes()))
+    }
+
+    /// New names for a pad's elements, one for each, by rising code; gilrs's `set_mapping`. They hold until the pad's next Connected, and until then the pad maps
+    /// no hat direction. Refuses 6, 7, 3, 4, 5.
     pub fn rename(&mut self, pad: PadId, names: &[Name]) -> Result<(), Refusal> {
         let list: Vec<u8> = names.iter().map(|name| name.0).collect();
         judged(self.fields.rename(pad.0, &list))
     }
+}
+
+/// The library's answer to either registration.
+fn registered(answer: Pad) -> Result<PadId, Refusal> {
+    judged(answer.refusal)?;
+    Ok(PadId(answer.pad))
 }
 
 /// Events.

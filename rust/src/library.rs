@@ -18,6 +18,10 @@ unsafe extern "C" {
         head: Head, codes: &mut Codes, kinds: &mut Bytes, names: &mut Bytes, hasbutton: &mut Bools,
         hasaxis: &mut Bools, values: &mut Values, marks: &mut Marks, sheet: *const u8, sheet_size: usize,
     ) -> Registered;
+    fn copperyarn_lent_register_archived(
+        head: Head, codes: &mut Codes, kinds: &mut Bytes, names: &mut Bytes, hasbutton: &mut Bools,
+        hasaxis: &mut Bools, values: &mut Values, marks: &mut Marks, sheet: *const u8, sheet_size: usize,
+    ) -> Registered;
     fn copperyarn_lent_rename(
         head: Head, codes: &Codes, kinds: &Bytes, renames: &mut Bytes, pad: u8, list: *const u8, list_size: usize,
     ) -> Done;
@@ -80,6 +84,7 @@ unsafe extern "C" {
         head: Head, codes: &Codes, names: &Bytes, renames: &Bytes, pad: u8, name: u8,
     ) -> Number;
     safe fn copperyarn_lent_is_connected(head: Head, pad: u8) -> Truth;
+    safe fn copperyarn_lent_is_old(head: Head, pad: u8) -> Truth;
     safe fn copperyarn_lent_down(head: Head, pad: u8) -> Down;
     safe fn copperyarn_lent_lowest_pressed(head: Head, codes: &Codes, pad: u8) -> Number;
     safe fn copperyarn_lent_waiting(head: Head) -> u8;
@@ -137,6 +142,17 @@ impl Fields {
         // SAFETY: pointer and size are the sheet's.
         let registered = unsafe {
             copperyarn_lent_register(*head, codes, kinds, names, hasbutton, hasaxis, values, marks, at, size)
+        };
+        self.head = registered.head;
+        registered.pad
+    }
+
+    pub(crate) fn register_archived(&mut self, sheet: &[u8]) -> Pad {
+        let Fields { head, codes, kinds, names, hasbutton, hasaxis, values, marks, .. } = self;
+        let (at, size) = (sheet.as_ptr(), sheet.len());
+        // SAFETY: pointer and size are the sheet's.
+        let registered = unsafe {
+            copperyarn_lent_register_archived(*head, codes, kinds, names, hasbutton, hasaxis, values, marks, at, size)
         };
         self.head = registered.head;
         registered.pad
@@ -276,6 +292,10 @@ impl Fields {
 
     pub(crate) fn is_connected(&self, pad: u8) -> Truth {
         copperyarn_lent_is_connected(self.head, pad)
+    }
+
+    pub(crate) fn is_old(&self, pad: u8) -> Truth {
+        copperyarn_lent_is_old(self.head, pad)
     }
 
     pub(crate) fn down(&self, pad: u8) -> Down {

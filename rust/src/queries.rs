@@ -13,6 +13,25 @@ impl Hub {
         truth(self.fields().is_connected(pad.0))
     }
 
+    /// Whether a pad is old: it was [registered from the archive](Hub::register_archived) with hats that map one to three directions, and has them. A rename
+    /// clears that, and the pad's next Connected brings it back; Disconnected leaves it. gilrs has no such call.
+    ///
+    /// ```
+    /// use copperyarn::{Button, Code, Hub, RawRecord, Settings, Sheet};
+    ///
+    /// let mut hub = Hub::new(Settings::default())?;
+    /// let pad = hub.register_archived(&Sheet::builder().button(Code::key(0x130), Button::South).hats(3).build())?;
+    /// assert!(hub.is_old(pad)?);
+    /// hub.rename(pad, &[Button::East.into()])?;
+    /// assert!(!hub.is_old(pad)?);
+    /// assert!(hub.feed(&[RawRecord::connected(pad, 1_000)]).all(|event| event.is_ok()));
+    /// assert!(hub.is_old(pad)?);
+    /// # Ok::<(), copperyarn::Refusal>(())
+    /// ```
+    pub fn is_old(&self, pad: PadId) -> Result<bool, Refusal> {
+        truth(self.fields().is_old(pad.0))
+    }
+
     /// The connected pads.
     pub fn connected_pads(&self) -> impl Iterator<Item = PadId> + '_ {
         (0..4).map(PadId).filter(|pad| self.is_connected(*pad) == Ok(true))

@@ -20,13 +20,13 @@ use std::fmt;
 pub enum Refusal {
     /// 1, by [`Hub::new`](crate::Hub::new).
     Thresholds = 1,
-    /// 2, by [`register`](crate::Hub::register).
+    /// 2, by [`register`](crate::Hub::register) and [`register_archived`](crate::Hub::register_archived).
     Pads,
-    /// 3, by `register` and [`rename`](crate::Hub::rename).
+    /// 3, by these and [`rename`](crate::Hub::rename).
     Sheet,
-    /// 4, by `register` and `rename`.
+    /// 4, by the same.
     Element,
-    /// 5, by `register` and `rename`.
+    /// 5, by the same.
     NameTwice,
     /// 6, by every call that names a pad.
     NoPad,
@@ -50,11 +50,13 @@ pub enum Refusal {
     Repeat,
     /// 16, by the queries that go by a name.
     Name,
+    /// 29, by `register`.
+    PartialHats = 29,
 }
 
 impl Refusal {
     /// All of them, by number.
-    pub const ALL: [Refusal; 16] = [
+    pub const ALL: [Refusal; 17] = [
         Refusal::Thresholds,
         Refusal::Pads,
         Refusal::Sheet,
@@ -71,16 +73,17 @@ impl Refusal {
         Refusal::TooLong,
         Refusal::Repeat,
         Refusal::Name,
+        Refusal::PartialHats,
     ];
 
-    /// Its number, 1 to 16.
+    /// Its number, 1 to 16 or 29.
     pub fn number(self) -> u8 {
         self as u8
     }
 
-    /// The refusal of a number; none for 0, which is no refusal, and from 17 on.
+    /// The refusal of a number; none for 0, which is no refusal, and for numbers that no call gives.
     pub fn from_number(number: u8) -> Option<Refusal> {
-        Refusal::ALL.get(usize::from(number).checked_sub(1)?).copied()
+        Refusal::ALL.into_iter().find(|refusal| refusal.number() == number)
     }
 
     fn sentence(self) -> &'static str {
@@ -103,6 +106,7 @@ impl Refusal {
             Refusal::TooLong => "batch or out buffer too long",
             Refusal::Repeat => "repeat settings out of limits",
             Refusal::Name => "query by a byte that is no name of the sort asked, Unknown included",
+            Refusal::PartialHats => "hats map one to three directions, which only an archived sheet may",
         }
     }
 }
@@ -115,11 +119,9 @@ impl fmt::Display for Refusal {
 
 impl Error for Refusal {}
 
-/// The library's number for what it did: 0 is served, 1 to 16 a refusal, and there is no other.
+/// The library's number for what it did: 0 is served, 1 to 16 or 29 a refusal, and there is no other.
 pub(crate) fn judged(number: u8) -> Result<(), Refusal> {
-    debug_assert!(usize::from(number) <= Refusal::ALL.len());
-    match Refusal::from_number(number) {
-        None => Ok(()),
-        Some(refusal) => Err(refusal),
-    }
+    let refusal = Refusal::from_number(number);
+    debug_assert!(number == 0 || refusal.is_some());
+    refusal.map_or(Ok(()), Err)
 }

@@ -3,7 +3,8 @@
 use crate::names::{Code, Name};
 use std::ops::RangeInclusive;
 
-/// The bytes that describe a pad, for [`register`](crate::Hub::register), which judges them: neither the builder nor `from_bytes` does.
+/// The bytes that describe a pad, for [`register`](crate::Hub::register) or [`register_archived`](crate::Hub::register_archived), which judge them: neither the
+/// builder nor `from_bytes` does.
 ///
 /// ```
 /// use copperyarn::{Axis, Button, Code, Hub, Name, Settings, Sheet};
@@ -63,8 +64,9 @@ impl SheetBuilder {
     /// The deadzone of an axis that has none of its own: the hub then takes the threshold 0.1.
     const ABSENT: u32 = u32::MAX;
 
-    /// Which of the four hats are mapped, 0 to 15. Moves of DPadX and DPadY become presses of the directions where this is 15; and where it is 0, as it is from
-    /// the start, if no direction's code has a name and no element is named DPadRight.
+    /// Which of the four hats are mapped, a bit for each. Moves of DPadX and DPadY become presses of the directions where this is 15; and where it is 0, as it is
+    /// from the start, if no direction's code has a name and no element is named DPadRight. With 1 to 14 the sheet is one of the archive:
+    /// [`register_archived`](crate::Hub::register_archived) takes it, [`register`](crate::Hub::register) refuses 29. From 16 on both refuse 4.
     pub fn hats(mut self, hats: u8) -> SheetBuilder {
         self.hats = hats;
         self

@@ -62,6 +62,27 @@ fn sheets_are_judged() {
     assert_eq!(registered(two_elements().axis(Code::abs(1), Axis::LeftStickY, 1..=1).build()), Some(4));
     assert_eq!(registered(two_elements().button(Code::key(0x131), Button::Unknown).build()), Some(4));
     assert_eq!(registered(two_elements().button(Code::key(0x131), Button::South).build()), Some(5));
+    assert_eq!(registered(two_elements().hats(15).build()), None);
+    assert_eq!(registered(two_elements().hats(6).build()), Some(29));
+    assert_eq!(registered(two_elements().hats(6).button(SOUTH, Button::East).build()), Some(4));
+    assert_eq!(registered(two_elements().hats(6).button(Code::key(0x131), Button::South).build()), Some(29));
+}
+
+#[test]
+fn sheets_of_the_archive_are_judged() {
+    let registered = |sheet: Sheet| number(&mut hub(), |hub| hub.register_archived(&sheet));
+    let archived = || two_elements().hats(6);
+    assert_eq!((registered(two_elements().build()), registered(archived().build())), (None, None));
+    let mut full = hub();
+    for _ in 1..4 {
+        assert_eq!(number(&mut full, |hub| hub.register_archived(&archived().build())), None);
+    }
+    assert_eq!(number(&mut full, |hub| hub.register_archived(&archived().build())), Some(2));
+    assert_eq!(number(&mut full, |hub| hub.register(&archived().build())), Some(2));
+    assert_eq!(registered(Sheet::from_bytes(&[])), Some(3));
+    assert_eq!(registered(archived().hats(22).build()), Some(4));
+    assert_eq!(registered(archived().button(SOUTH, Button::East).build()), Some(4));
+    assert_eq!(registered(archived().button(Code::key(0x131), Button::South).build()), Some(5));
 }
 
 #[test]
@@ -140,17 +161,17 @@ fn repeats_and_queries_are_judged() {
     assert_eq!(number(&mut hub, |hub| hub.buttons(PadId(1)).map(drop)), Some(6));
     for pad in (1..=255).map(PadId) {
         assert_eq!((hub.down(pad), hub.lowest_pressed(pad)), (Err(Refusal::NoPad), Err(Refusal::NoPad)));
+        assert_eq!(hub.is_old(pad), Err(Refusal::NoPad));
     }
 }
 
 #[test]
 fn a_refusal_has_its_number_and_its_sentence() {
-    for (at, refusal) in Refusal::ALL.into_iter().enumerate() {
-        assert_eq!(usize::from(refusal.number()), at + 1);
-        assert_eq!(Refusal::from_number(refusal.number()), Some(refusal));
+    for (at, (refusal, number)) in Refusal::ALL.into_iter().zip((1..=16).chain([29])).enumerate() {
+        assert_eq!((refusal.number(), Refusal::from_number(number)), (number, Some(refusal)));
         assert!(Refusal::ALL[..at].iter().all(|other| other.to_string() != refusal.to_string()));
     }
-    assert_eq!((Refusal::from_number(0), Refusal::from_number(17)), (None, None));
+    assert_eq!((0..=255).filter_map(Refusal::from_number).count(), 17);
     assert_eq!(Refusal::Pads.to_string(), "four pads stand");
     assert_eq!(Refusal::Repeat.to_string(), "repeat settings out of limits");
     let refused = hub().feed(&[RawRecord::connected(PadId(3), 9)]).next().expect("an item").unwrap_err();

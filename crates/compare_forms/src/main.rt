@@ -10,11 +10,13 @@ use rules::PLACES_PER_PAD;
 // a case opens with its kind and the length of the rest in 4 bytes
 const OPENING: usize = 5;
 
-const SHEET: u8 = 1;
+const ARCHIVED_SHEET: u8 = 1;
 
 const RECORD: u8 = 2;
 
 const INSERTED: u8 = 4;
+
+const NEW_SHEET: u8 = 5;
 
 // The pads of a case, their places' codes and kinds, and where what they meet begins.
 struct Met {
@@ -34,7 +36,7 @@ fn registered(m: Met, sheet: &[u8]) -> Met {
     if PADS <= pads {
         return m;
     }
-    if 0 < sheets::sheet_refusal(sheet) {
+    if 0 < sheets::sheet_refusal(true, sheet) {
         return m;
     }
     let rows = layout::rows_of(sheet);
@@ -155,9 +157,14 @@ fn say(number: u8) {
 }
 
 fn judge(kind: u8, case: &[u8]) {
-    if kind == SHEET {
+    if kind == ARCHIVED_SHEET {
         io::write_all(STDOUT_FILENO, b"SHEET ");
-        say(sheets::sheet_refusal(case));
+        say(sheets::sheet_refusal(true, case));
+        return;
+    }
+    if kind == NEW_SHEET {
+        io::write_all(STDOUT_FILENO, b"SHEET ");
+        say(sheets::sheet_refusal(false, case));
         return;
     }
     if kind == RECORD {

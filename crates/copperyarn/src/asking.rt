@@ -5,7 +5,7 @@ ghost use mathlib.Core.List.{List};
 ghost use Prim.Native.Nat.{ℕ};
 ghost use lib.Ieee.{Float};
 ghost use Rattle.rules.specs.Queries.{pressedByCode, pressedByName, connectedOf, valueByCode, valueByName, thresholdByCode};
-ghost use Rattle.rules.specs.Queries.{buttonByCode, buttonByName, axisByCode, axisByName, nameByCode, codeByName, downOf, lowestPressed};
+ghost use Rattle.rules.specs.Queries.{buttonByCode, buttonByName, axisByCode, axisByName, nameByCode, codeByName, downOf, lowestPressed, oldOf};
 ghost use Rattle.hub.specs.Lent.{Listed, Columns, listed, columns, hubOf};
 ghost use Rattle.crossing.specs.Crossing.{truthOf, valueOf, numberOf, buttonOf, axisOf, downOf as crossedDown};
 use columns::Marks;
@@ -311,6 +311,14 @@ pub extern "C" fn copperyarn_lent_is_connected(head: Head, p: u8) -> Truth
     ensures { λ r. ⌜ ((s : Listed) (t : Columns) → r ≡ truthOf (connectedOf (hubOf head s t) p)) ⌝ }
 {
     crossing::truth_of(queries::is_connected(head, p))
+}
+
+// Whether a pad is old: whether its hats are partial at present. Refuses 6.
+#[no_mangle]
+pub extern "C" fn copperyarn_lent_is_old(head: Head, p: u8) -> Truth
+    ensures { λ r. ⌜ ((s : Listed) (t : Columns) → r ≡ truthOf (oldOf (hubOf head s t) p)) ⌝ }
+{
+    crossing::truth_of(queries::is_old(head, p))
 }
 
 // How many events wait.

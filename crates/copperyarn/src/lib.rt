@@ -8,7 +8,7 @@ ghost use mathlib.Core.Bool.{Bool};
 ghost use mathlib.Core.List.{List};
 ghost use Prim.Native.Nat.{ℕ};
 ghost use lib.Ieee.{Float};
-ghost use Rattle.rules.specs.Calls.{newOf, registerOf, renameOf, updateOf, insertOf, incOf, resetOf};
+ghost use Rattle.rules.specs.Calls.{newOf, registerOf, registerArchivedOf, renameOf, updateOf, insertOf, incOf, resetOf};
 ghost use Rattle.numbers.specs.Tilt.{tiltedOf};
 ghost use Rattle.rules.specs.Pump.{pumpOf};
 ghost use Rattle.rules.specs.Tilt.{pumpTilt};
@@ -80,7 +80,7 @@ pub extern "C" fn copperyarn_lent_new(
     }
 }
 
-// A pad from its sheet: the pad's number. Refuses 2, 3, 4, 5.
+// A pad from its sheet: the pad's number. Refuses 2, 3, 4, 29, 5.
 #[no_mangle]
 pub extern "C" fn copperyarn_lent_register(
     head: Head,
@@ -101,6 +101,45 @@ pub extern "C" fn copperyarn_lent_register(
         (now (sheet .entry)))) ⌝ }
 {
     let r = desk::register(
+        head,
+        codes,
+        kinds,
+        names,
+        hasbutton,
+        hasaxis,
+        values,
+        marks,
+        sheet,
+    );
+    let head = r.head;
+    let answer = r.answer;
+    Registered {
+        head,
+        pad: crossing::pad_of(answer),
+    }
+}
+
+// A pad from an archived sheet, whose hats may be partial: the pad's number. Refuses 2, 3, 4, 5.
+#[no_mangle]
+pub extern "C" fn copperyarn_lent_register_archived(
+    head: Head,
+    codes: &mut [u32; 208],
+    kinds: &mut [u8; 208],
+    names: &mut [u8; 208],
+    hasbutton: &mut [bool; 208],
+    hasaxis: &mut [bool; 208],
+    values: &mut Values,
+    marks: &mut Marks,
+    sheet: &[u8],
+) -> Registered
+    ensures { λ r. ⌜ ((renames times queuebytes queuecodes : List ℕ) →
+        enrolled (r .head) (listed (now (codes .exit)) (now (kinds .exit)) (now (names .exit)) renames)
+        (columns (now (hasbutton .exit)) (now (hasaxis .exit)) (now (values .exit)) times (now (marks .exit)) queuebytes queuecodes) (r .pad)
+        ≡ enrolledOf (registerArchivedOf (hubOf head (listed (now (codes .entry)) (now (kinds .entry)) (now (names .entry)) renames)
+        (columns (now (hasbutton .entry)) (now (hasaxis .entry)) (now (values .entry)) times (now (marks .entry)) queuebytes queuecodes))
+        (now (sheet .entry)))) ⌝ }
+{
+    let r = desk::register_archived(
         head,
         codes,
         kinds,

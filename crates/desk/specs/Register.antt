@@ -17,7 +17,7 @@ use Rattle.rules.specs.declared.Registered.{Registered}
 use Rattle.rules.specs.Names.{padLimit, placesPerPad}
 use Rattle.rules.specs.Sheets.{sheetRefusal, hatsOf, countOf}
 use Rattle.rules.specs.Places.{convertsOf, clearedOf, rowsOf}
-use Rattle.rules.specs.Calls.{laid, rowCode, rowKind, rowName, rowElement, registeredAt, registerRefusal, registerBy, registerOf}
+use Rattle.rules.specs.Calls.{laid, rowCode, rowKind, rowName, rowElement, registeredAt, registerRefusal, registerBy, registerAs}
 use Rattle.columns.specs.Columns.{elementsOf, buttonsOf, axesOf, slotsOf}
 use Rattle.layout.specs.Laid.{LaidOut}
 use Rattle.hub.specs.declared.Head.{Head}
@@ -44,24 +44,24 @@ served (suc number) h s none = absurd (omega arith)
 
 -- ---- the call, on any hub
 
-module _ (h : Hub) (s : List ℕ) where
-  pub register-full : padLimit ≤ h .pads → _≡_ {A = Registered} (record { hub = h; answer = registerAnswer.Refused 2 }) (registerOf h s)
-  unfolding registerOf registerRefusal
+module _ (archived : Bool) (h : Hub) (s : List ℕ) where
+  pub register-full : padLimit ≤ h .pads → _≡_ {A = Registered} (record { hub = h; answer = registerAnswer.Refused 2 }) (registerAs archived h s)
+  unfolding registerAs registerRefusal
   register-full full = rw (le-ltb (h .pads) padLimit full)
 
-  module _ {number : ℕ} (room : h .pads < padLimit) (e : number ≡ sheetRefusal s) where
-    judged : registerOf h s ≡ registerBy number h s
-    unfolding registerOf registerRefusal
+  module _ {number : ℕ} (room : h .pads < padLimit) (e : number ≡ sheetRefusal archived s) where
+    judged : registerAs archived h s ≡ registerBy number h s
+    unfolding registerAs registerRefusal
     judged = rw (lt-ltb (h .pads) padLimit room, e)
 
-    pub register-refused : 0 < number → _≡_ {A = Registered} (record { hub = h; answer = registerAnswer.Refused number }) (registerOf h s)
+    pub register-refused : 0 < number → _≡_ {A = Registered} (record { hub = h; answer = registerAnswer.Refused number }) (registerAs archived h s)
     register-refused some = refused number h s some ∙ sym judged
 
     register-served :
         {g : Hub} →
         number ≤ 0 →
         g ≡ registeredAt h (h .pads) (hatsOf s) (countOf s) (rowsOf s (countOf s)) →
-        _≡_ {A = Registered} (record { hub = g; answer = registerAnswer.Pad (h .pads) }) (registerOf h s)
+        _≡_ {A = Registered} (record { hub = g; answer = registerAnswer.Pad (h .pads) }) (registerAs archived h s)
     register-served none is = rw is (served number h s none ∙ sym judged)
 
 -- ---- the hub with one pad more, whatever stands in the arrays that are not lent
@@ -81,7 +81,7 @@ hub-with d s hasbutton hasaxis marks values times queuebytes queuecodes = refl
 
 -- cs, ks, ns are codes, kinds and names of the places, vs and ms values and marks of the records; primes mark what the call leaves
 module _
-    (d : Head) (cs ks ns renames : List ℕ) (hasbutton hasaxis : List Bool) (vs : List Float) (times : List ℕ) (ms : List Bool)
+    (archived : Bool) (d : Head) (cs ks ns renames : List ℕ) (hasbutton hasaxis : List Bool) (vs : List Float) (times : List ℕ) (ms : List Bool)
     (queuebytes queuecodes : List ℕ) where
   abbrev before : Hub
   before = hubOf d (listed cs ks ns renames) (columns hasbutton hasaxis vs times ms queuebytes queuecodes)
@@ -105,7 +105,7 @@ module _
       (s : List ℕ) {number w hats count : ℕ} {cs' ks' ns' : List ℕ} {hasbutton' hasaxis' : List Bool} {vs' : List Float} {ms' : List Bool}
       {converts : Bool} {d' : Head} →
       d .pads < padLimit →
-      number ≡ sheetRefusal s →
+      number ≡ sheetRefusal archived s →
       number ≤ 0 →
       hats ≡ hatsOf s →
       count ≡ countOf s →
@@ -117,9 +117,9 @@ module _
       d' ≡ registeredHead d (d .pads) hats count converts →
       registered (record { head = d'; answer = registerAnswer.Pad (d .pads) }) (listed cs' ks' ns' renames)
       (columns hasbutton' hasaxis' vs' times ms' queuebytes queuecodes)
-      ≡ registerOf before s
+      ≡ registerAs archived before s
   register-lent s room e none eh en ew rows et em ec ed =
-      register-served before s room e none
+      register-served archived before s room e none
       (rw (
         hub-with,
         ed,

@@ -7,7 +7,7 @@ ghost use mathlib.Core.List.{List};
 ghost use Prim.Native.Nat.{ℕ, _<_};
 ghost use lib.Ieee.{Float};
 ghost use Rattle.rules.specs.Names.{padLimit};
-ghost use Rattle.rules.specs.Calls.{newOf, registerOf, renameRefusal, renameOf};
+ghost use Rattle.rules.specs.Calls.{newOf, registerAs, registerOf, registerArchivedOf, renameRefusal, renameOf};
 ghost use Rattle.hub.specs.Lent.{Listed, Columns, listed, columns, hubOf, answered, registered};
 ghost use Rattle.hub.specs.Heads.{freshHead};
 ghost use Rattle.desk.specs.Heads.{registeredHead, renamedHead};
@@ -132,7 +132,54 @@ fn with_pad(head: Head, p: u8, hats: u8, count: u8, converts: bool) -> Head
     h
 }
 
-// A pad from its sheet: the pad's number, or 2, 3, 4, 5 in this order.
+// A pad from its sheet, new or archived: the pad's number, or 2, 3, 4, 29 for a new sheet, 5 in this order.
+pub fn register_as(
+    archived: bool,
+    head: Head,
+    codes: &mut [u32; 208],
+    kinds: &mut [u8; 208],
+    names: &mut [u8; 208],
+    hasbutton: &mut [bool; 208],
+    hasaxis: &mut [bool; 208],
+    values: &mut Values,
+    marks: &mut Marks,
+    sheet: &[u8],
+) -> RegisteredHead
+    ensures { λ r. ⌜ ((renames times queuebytes queuecodes : List ℕ) →
+        registered r (listed (now (codes .exit)) (now (kinds .exit)) (now (names .exit)) renames)
+        (columns (now (hasbutton .exit)) (now (hasaxis .exit)) (now (values .exit)) times (now (marks .exit)) queuebytes queuecodes)
+        ≡ registerAs archived (hubOf head (listed (now (codes .entry)) (now (kinds .entry)) (now (names .entry)) renames)
+        (columns (now (hasbutton .entry)) (now (hasaxis .entry)) (now (values .entry)) times (now (marks .entry)) queuebytes queuecodes))
+        (now (sheet .entry))) ⌝ }
+{
+    let p = head.pads;
+    if PADS <= p {
+        return RegisteredHead {
+            head: head,
+            answer: RegisterAnswer::Refused(2),
+        };
+    }
+    let number = sheets::sheet_refusal(archived, sheet);
+    if 0 < number {
+        return RegisteredHead {
+            head: head,
+            answer: RegisterAnswer::Refused(number),
+        };
+    }
+    let hats = sheet[HATS_AT];
+    let count = sheet[COUNT_AT];
+    let start = PLACES_PER_PAD * choices::wide(p);
+    layout::lay_in(codes, kinds, names, values, marks, start, sheet);
+    pad::clear(hasbutton, start, PLACES_PER_PAD);
+    pad::clear(hasaxis, start, PLACES_PER_PAD);
+    let converts = pad::converts(hats, codes, names, p);
+    RegisteredHead {
+        head: with_pad(head, p, hats, count, converts),
+        answer: RegisterAnswer::Pad(p),
+    }
+}
+
+// A pad from a new sheet: the pad's number, or 2, 3, 4, 29, 5 in this order.
 pub fn register(
     head: Head,
     codes: &mut [u32; 208],
@@ -151,31 +198,51 @@ pub fn register(
         (columns (now (hasbutton .entry)) (now (hasaxis .entry)) (now (values .entry)) times (now (marks .entry)) queuebytes queuecodes))
         (now (sheet .entry))) ⌝ }
 {
-    let p = head.pads;
-    if PADS <= p {
-        return RegisteredHead {
-            head: head,
-            answer: RegisterAnswer::Refused(2),
-        };
-    }
-    let number = sheets::sheet_refusal(sheet);
-    if 0 < number {
-        return RegisteredHead {
-            head: head,
-            answer: RegisterAnswer::Refused(number),
-        };
-    }
-    let hats = sheet[HATS_AT];
-    let count = sheet[COUNT_AT];
-    let start = PLACES_PER_PAD * choices::wide(p);
-    layout::lay_in(codes, kinds, names, values, marks, start, sheet);
-    pad::clear(hasbutton, start, PLACES_PER_PAD);
-    pad::clear(hasaxis, start, PLACES_PER_PAD);
-    let converts = pad::converts(hats, codes, names, p);
-    RegisteredHead {
-        head: with_pad(head, p, hats, count, converts),
-        answer: RegisterAnswer::Pad(p),
-    }
+    register_as(
+        false,
+        head,
+        codes,
+        kinds,
+        names,
+        hasbutton,
+        hasaxis,
+        values,
+        marks,
+        sheet,
+    )
+}
+
+// A pad from an archived sheet, whose hats may be partial: the pad's number, or 2, 3, 4, 5 in this order.
+pub fn register_archived(
+    head: Head,
+    codes: &mut [u32; 208],
+    kinds: &mut [u8; 208],
+    names: &mut [u8; 208],
+    hasbutton: &mut [bool; 208],
+    hasaxis: &mut [bool; 208],
+    values: &mut Values,
+    marks: &mut Marks,
+    sheet: &[u8],
+) -> RegisteredHead
+    ensures { λ r. ⌜ ((renames times queuebytes queuecodes : List ℕ) →
+        registered r (listed (now (codes .exit)) (now (kinds .exit)) (now (names .exit)) renames)
+        (columns (now (hasbutton .exit)) (now (hasaxis .exit)) (now (values .exit)) times (now (marks .exit)) queuebytes queuecodes)
+        ≡ registerArchivedOf (hubOf head (listed (now (codes .entry)) (now (kinds .entry)) (now (names .entry)) renames)
+        (columns (now (hasbutton .entry)) (now (hasaxis .entry)) (now (values .entry)) times (now (marks .entry)) queuebytes queuecodes))
+        (now (sheet .entry))) ⌝ }
+{
+    register_as(
+        true,
+        head,
+        codes,
+        kinds,
+        names,
+        hasbutton,
+        hasaxis,
+        values,
+        marks,
+        sheet,
+    )
 }
 
 // ---- rename

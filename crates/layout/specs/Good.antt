@@ -65,7 +65,7 @@ above s i e =
     let before : i + 1 - 1 ≡ i = omega arith in
     ltb-true (elementOf s i .code) (elementOf s (i + 1) .code) (rw (ne-eqb (i + 1) 0 later, before) at e)
 
-pub good : (s : List ℕ) → sheetRefusal s ≡ 0 → Good s (countOf s)
+pub good : (s : List ℕ) → sheetRefusal true s ≡ 0 → Good s (countOf s)
 unfolding sheetRefusal sheetFits
 good s e =
     let parts =

@@ -152,7 +152,7 @@ fn one_if(b: bool) -> u32
 
 // The 52 rows of a good sheet: its elements in code order, the unlisted directions among them.
 pub fn rows_of(s: &[u8]) -> [Row; 52]
-    requires { ⌜ sheetRefusal (now s) ≡ 0 ⌝ }
+    requires { ⌜ sheetRefusal true (now s) ≡ 0 ⌝ }
     ensures { λ r. ⌜ r ≡ rowsOf (now (s .entry)) (countOf (now (s .entry))) ⌝ }
 {
     let n = s[COUNT_AT] as u32;
@@ -185,7 +185,7 @@ pub fn lay_in(
     start: usize,
     s: &[u8],
 )
-    requires { ⌜ (start + placesPerPad ≤ nowhere) × (sheetRefusal (now s) ≡ 0) ⌝ }
+    requires { ⌜ (start + placesPerPad ≤ nowhere) × (sheetRefusal true (now s) ≡ 0) ⌝ }
     ensures { λ _. ⌜ LaidOut (now (codes .entry)) (now (kinds .entry)) (now (names .entry)) (now (values .entry)) (now (marks .entry)) start
         (rowsOf (now (s .entry)) (countOf (now (s .entry))))
         (now (codes .exit)) (now (kinds .exit)) (now (names .exit)) (now (values .exit)) (now (marks .exit)) ⌝ }

@@ -151,5 +151,5 @@ pub log-ends : (input out : List ℕ) → length out ≡ bufferLimit → Ends (l
 unfolding logOf
 log-ends input out size =
     let sheet = take (sheetEnd input) input in
-    log-by (registerOf deskHub sheet .answer) (registerOf deskHub sheet .hub) (drop (sheetEnd input) input) out [] (register sheet desk-played)
-    (register-still desk-played sheet 0 (none-still deskHub desk-idle)) size
+    log-by (registerOf deskHub sheet .answer) (registerOf deskHub sheet .hub) (drop (sheetEnd input) input) out [] (register false sheet desk-played)
+    (register-still desk-played false sheet 0 (none-still deskHub desk-idle)) size

@@ -1,4 +1,4 @@
-// The queries of document 01, and of W-213, on a hub that is lent: each takes the head and the arrays that it reads, and changes nothing. "Query: 6, 16"; "A query by a code
+// The queries of document 01, of W-212 and W-213, on a hub that is lent: each takes the head and the arrays that it reads, and changes nothing. "Query: 6, 16"; "A query by a code
 // not known reads false or 0.0". Each answers what its definition in the law book says, at the hub that head and arrays stand for, for any numbers and whatever
 // the arrays hold that it is not lent.
 mod reading;
@@ -9,8 +9,9 @@ ghost use mathlib.Core.List.{List};
 ghost use Prim.Native.Nat.{ℕ, _≤_};
 ghost use lib.Ieee.{Float};
 ghost use Rattle.rules.specs.Names.{nowhere};
+ghost use Rattle.rules.specs.Hub.{hatsNow};
 ghost use Rattle.rules.specs.Queries.{pressedByCode, pressedByName, connectedOf, valueByCode, valueByName, thresholdByCode};
-ghost use Rattle.rules.specs.Queries.{buttonPlaceOf, buttonByCode, buttonByName, axisByCode, axisByName, nameByCode, codeByName, downOf, lowestPressed};
+ghost use Rattle.rules.specs.Queries.{buttonPlaceOf, buttonByCode, buttonByName, axisByCode, axisByName, nameByCode, codeByName, downOf, lowestPressed, oldOf};
 ghost use Rattle.gather.specs.EventPlaces.{PlaceIs};
 ghost use Rattle.hub.specs.Lent.{Listed, Columns, listed, columns, hubOf};
 use columns::Marks;
@@ -319,6 +320,24 @@ pub fn is_connected(head: Head, p: u8) -> TruthAnswer
 {
     let refusal = refusals::pad_refusal(head.pads, p);
     reading::truth(refusal, pad::pad_bool(&head.connected, p))
+}
+
+// The present hats: a rename's until the next Connected.
+pub fn hats_now(head: Head, p: u8) -> u8
+    ensures { λ r. ⌜ ((s : Listed) (t : Columns) → r ≡ hatsNow (hubOf head s t) p) ⌝ }
+{
+    if pad::pad_bool(&head.renamed, p) {
+        return pad::pad_number(&head.newhats, p);
+    }
+    pad::pad_number(&head.hats, p)
+}
+
+// W-212: whether one to three hat directions are mapped, as an archived sheet may have them. Refuses 6.
+pub fn is_old(head: Head, p: u8) -> TruthAnswer
+    ensures { λ r. ⌜ ((s : Listed) (t : Columns) → r ≡ oldOf (hubOf head s t) p) ⌝ }
+{
+    let refusal = refusals::pad_refusal(head.pads, p);
+    reading::truth(refusal, refusals::partial_hats(hats_now(head, p)))
 }
 
 // How many events wait.

@@ -5,7 +5,8 @@ ghost use Rattle.rules.specs.Refusals.{inUnit, thresholdsRefusal, isRegistered,
 ghost use Rattle.rules.specs.Refusals.{codeRefusal, formRefusal, insertRefusal, pumpRefusal, repeatRefusal};
 ghost use Rattle.rules.specs.Refusals.{buttonQueryRefusal, axisQueryRefusal, nameQueryRefusal, unlessFits};
 ghost use Rattle.rules.specs.Refusals as Refusals;
-ghost use mathlib.Core.Bool.{true, cond, _&&_, _||_};
+ghost use Rattle.rules.specs.Sheets.{partialOf};
+ghost use mathlib.Core.Bool.{true, cond, not, _&&_, _||_};
 ghost use lib.Dec.{eqb, ltb};
 use rules::ELEMENT_AXIS;
 use rules::ELEMENT_BUTTON;
@@ -25,8 +26,8 @@ const BUFFER_LIMIT: usize = 16_384;
 
 const INSERT_LIMIT: u8 = 16;
 
-// kinds of raw records and of events up to which a code is carried
-// kinds of elements
+const LAST_HATS: u8 = 15;
+
 // ---- in order: a number where the input does not fit, and the first number that there is
 
 // A refusal's number where something does not fit, else 0.
@@ -218,6 +219,26 @@ pub fn repeat_refusal(after: u64, every: u64, now: u64) -> u8
         choices::both(1 <= every, every <= LAST_WAIT),
     );
     first(unless_fits(fits, 15), unless_fits(time_fits(now), 12))
+}
+
+// ---- registration: 29
+
+// W-212: whether one to three directions are mapped, the low four bits being 1 to 14.
+pub fn partial_hats(hats: u8) -> bool
+    ensures { λ r. ⌜ r ≡ partialOf hats ⌝ }
+{
+    let low = hats % (LAST_HATS + 1);
+    choices::both(0 < low, low < LAST_HATS)
+}
+
+// 29: partial hats, but for an archived sheet.
+pub fn hats_refusal(archived: bool, hats: u8) -> u8
+    ensures { λ r. ⌜ r ≡ cond (not archived && partialOf hats) 29 0 ⌝ }
+{
+    if archived {
+        return 0;
+    }
+    unless_fits(!partial_hats(hats), 29)
 }
 
 // ---- queries: 6, 16

@@ -99,3 +99,11 @@ pair = 41
 
 abbrev pub since : ℕ
 since = 42
+
+-- ---- 43, 44: an archived sheet is registered, whether a pad is old (W-212)
+
+abbrev pub registerArchived : ℕ
+registerArchived = 43
+
+abbrev pub old : ℕ
+old = 44

@@ -18,7 +18,7 @@ ghost use mathlib.Core.Path.{_≡_};
 
 // Of an operation that leaves the hub as it is: `Nothing` of what is none.
 pub enum Asked {
-    Pressed(TruthAnswer),
+    Truth(TruthAnswer),
     Value(ValueAnswer),
     Threshold(ValueAnswer),
     Button(ButtonAnswer),

@@ -1,1 +1,2 @@
 pub mod SetUp
+mod Examples

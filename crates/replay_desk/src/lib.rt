@@ -1,7 +1,7 @@
-// The operations of the oracle's scenario form (`oracle/README.md`) that set a desk up, played on a hub that is lent: new, register and rename. The head goes
-// in and comes back by value, the arrays are changed in place. Proved: answer and hub are what the operation's row of the table says (specs/SetUp.antt), at
-// the hub that head and arrays stand for, for every opcode and payload. By the calls' own contracts: a function here only picks the call and reads its numbers
-// off the payload.
+// The operations of the oracle's scenario form (`oracle/README.md`) that set a desk up, played on a hub that is lent: new, register, register_archived and
+// rename. The head goes in and comes back by value, the arrays are changed in place. Proved: answer and hub are what the operation's row of the table says
+// (specs/SetUp.antt), at the hub that head and arrays stand for, for every opcode and payload. By the calls' own contracts: a function here only picks the call
+// and reads its numbers off the payload.
 ghost use mathlib.Core.Path.{_≡_};
 ghost use mathlib.Core.Bool.{Bool};
 ghost use mathlib.Core.List.{List};
@@ -9,7 +9,7 @@ ghost use Prim.Native.Nat.{ℕ};
 ghost use lib.Ieee.{Float};
 ghost use Rattle.hub.specs.Lent.{listed, columns, hubOf};
 ghost use Rattle.replay_answers.specs.Told.{told};
-ghost use Rattle.replay_desk.specs.SetUp.{begunOf, registeredOf, renamedOf, setsUp, setUpOf};
+ghost use Rattle.replay_desk.specs.SetUp.{begunOf, registeredOf, bySheet, renamedOf, setsUp, setUpOf};
 use columns::Marks;
 use columns::QueueBytes;
 use columns::QueueCodes;
@@ -26,6 +26,8 @@ const REGISTER: u8 = 2;
 
 const RENAME: u8 = 3;
 
+const REGISTER_ARCHIVED: u8 = 43;
+
 // the payload of `new`: pressed 4, released 4, flags 1
 const RELEASED_AT: usize = 4;
 
@@ -38,6 +40,8 @@ const REVERSED: u8 = 1;
 const FILTERS: u8 = 2;
 
 const UPDATES: u8 = 4;
+
+// ---- new
 
 // A fresh hub, whatever the arrays held.
 fn begin(
@@ -89,7 +93,11 @@ fn begin(
     replay_answers::tell(h, Changed::Begun(answer))
 }
 
+// ---- by a sheet
+
+// A new sheet, or an archived one.
 fn register(
+    archived: bool,
     head: Head,
     codes: &mut [u32; 208],
     kinds: &mut [u8; 208],
@@ -103,11 +111,12 @@ fn register(
     ensures { λ r. ⌜ ((renames times queuebytes queuecodes : List ℕ) →
         told r (listed (now (codes .exit)) (now (kinds .exit)) (now (names .exit)) renames)
         (columns (now (hasbutton .exit)) (now (hasaxis .exit)) (now (values .exit)) times (now (marks .exit)) queuebytes queuecodes)
-        ≡ registeredOf (hubOf head (listed (now (codes .entry)) (now (kinds .entry)) (now (names .entry)) renames)
+        ≡ registeredOf archived (hubOf head (listed (now (codes .entry)) (now (kinds .entry)) (now (names .entry)) renames)
         (columns (now (hasbutton .entry)) (now (hasaxis .entry)) (now (values .entry)) times (now (marks .entry)) queuebytes queuecodes))
         (now (sheet .entry))) ⌝ }
 {
-    let r = desk::register(
+    let r = desk::register_as(
+        archived,
         head,
         codes,
         kinds,
@@ -122,6 +131,59 @@ fn register(
     let answer = r.answer;
     replay_answers::tell(h, Changed::Registered(answer))
 }
+
+// Register or register_archived.
+fn by_sheet(
+    head: Head,
+    codes: &mut [u32; 208],
+    kinds: &mut [u8; 208],
+    names: &mut [u8; 208],
+    hasbutton: &mut [bool; 208],
+    hasaxis: &mut [bool; 208],
+    values: &mut Values,
+    marks: &mut Marks,
+    opcode: u8,
+    sheet: &[u8],
+) -> Told
+    ensures { λ r. ⌜ ((renames times queuebytes queuecodes : List ℕ) →
+        told r (listed (now (codes .exit)) (now (kinds .exit)) (now (names .exit)) renames)
+        (columns (now (hasbutton .exit)) (now (hasaxis .exit)) (now (values .exit)) times (now (marks .exit)) queuebytes queuecodes)
+        ≡ bySheet (hubOf head (listed (now (codes .entry)) (now (kinds .entry)) (now (names .entry)) renames)
+        (columns (now (hasbutton .entry)) (now (hasaxis .entry)) (now (values .entry)) times (now (marks .entry)) queuebytes queuecodes))
+        opcode (now (sheet .entry))) ⌝ }
+{
+    if opcode == REGISTER {
+        return register(
+            false,
+            head,
+            codes,
+            kinds,
+            names,
+            hasbutton,
+            hasaxis,
+            values,
+            marks,
+            sheet,
+        );
+    }
+    if opcode == REGISTER_ARCHIVED {
+        return register(
+            true,
+            head,
+            codes,
+            kinds,
+            names,
+            hasbutton,
+            hasaxis,
+            values,
+            marks,
+            sheet,
+        );
+    }
+    replay_answers::tell(head, Changed::Nothing)
+}
+
+// ---- rename
 
 // Pad 1, the names.
 fn rename<'s>(
@@ -148,7 +210,7 @@ fn rename<'s>(
 
 // ---- any operation that sets a desk up
 
-// Whether an opcode is new, register or rename.
+// Whether an opcode is new, register, register_archived or rename.
 pub fn sets_up(opcode: u8) -> bool
     ensures { λ r. ⌜ r ≡ setsUp opcode ⌝ }
 {
@@ -156,6 +218,9 @@ pub fn sets_up(opcode: u8) -> bool
         return true;
     }
     if opcode == REGISTER {
+        return true;
+    }
+    if opcode == REGISTER_ARCHIVED {
         return true;
     }
     opcode == RENAME
@@ -202,21 +267,19 @@ pub fn set_up(
             payload,
         );
     }
-    if opcode == REGISTER {
-        return register(
-            head,
-            codes,
-            kinds,
-            names,
-            hasbutton,
-            hasaxis,
-            values,
-            marks,
-            payload,
-        );
-    }
     if opcode == RENAME {
         return rename(head, codes, kinds, renames, payload);
     }
-    replay_answers::tell(head, Changed::Nothing)
+    by_sheet(
+        head,
+        codes,
+        kinds,
+        names,
+        hasbutton,
+        hasaxis,
+        values,
+        marks,
+        opcode,
+        payload,
+    )
 }

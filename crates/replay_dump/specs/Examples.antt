@@ -12,7 +12,7 @@ use Rattle.rules.specs.declared.EventType.the-variants.{Pressed}
 use Rattle.rules.specs.Hub.{hatsNow}
 use Rattle.rules.specs.Sheets.{sheetBytes, elementButton}
 use Rattle.rules.specs.Events.{eventBytes}
-use Rattle.rules.specs.Calls.{newOf, registerOf, updateOf}
+use Rattle.rules.specs.Calls.{newOf, registerAs, registerOf, updateOf}
 use Rattle.lines.specs.Appending.{laidOver}
 use Rattle.lines.specs.Text.{numberText, hexText, decimalOf, hexOf, placesOf}
 use Rattle.lines.specs.Letters.{A, B, D, E, F, G, L, M, N, P, S, U, space, newline}
@@ -49,5 +49,5 @@ last : List ℕ
 last = E ∷ N ∷ D ∷ space ∷ 48 ∷ space ∷ 48 ∷ newline ∷ []
 
 dumped : laidAll (dumpPieces held) (written (replicate 100 0) 0) ≡ written (first ++ (button ++ (flags ++ (last ++ replicate 40 0)))) 60
-unfolding held sheet first button flags last newOf registerOf updateOf sheetBytes eventBytes dumpPieces padLines firstLine upTo hatsNow buttonPieces axisPieces laidAll laid laidOver numberText hexText decimalOf hexOf placesOf Ieee.ofBits Ieee.toBits Ieee.lt Ieee.le
+unfolding held sheet first button flags last newOf registerAs updateOf sheetBytes eventBytes dumpPieces padLines firstLine upTo hatsNow buttonPieces axisPieces laidAll laid laidOver numberText hexText decimalOf hexOf placesOf Ieee.ofBits Ieee.toBits Ieee.lt Ieee.le
 dumped = refl

@@ -15,7 +15,6 @@ ghost use mathlib.Core.Path.{_≡_};
 ghost use mathlib.Core.List.{List};
 ghost use Prim.Native.Nat.{ℕ, _+_, _*_, _<_};
 ghost use Rattle.rules.specs.Names.{padLimit, placesPerPad};
-ghost use Rattle.rules.specs.Hub.{hatsNow};
 ghost use Rattle.columns.specs.Columns.{buttonsOf, axesOf};
 ghost use Rattle.hub.specs.Lent.{Listed, Columns, listed, columns, hubOf};
 ghost use Rattle.replay_words.specs.Pieces.{written, laidAll};
@@ -138,16 +137,6 @@ fn flags(flags: &[bool; 24], text: &mut [u8], at: usize, p: u8) -> usize
     lines::append(text, next, b"\n")
 }
 
-// The present hats: a rename's until the next Connected.
-fn hats(head: Head, p: u8) -> u8
-    ensures { λ r. ⌜ ((s : Listed) (t : Columns) → r ≡ hatsNow (hubOf head s t) p) ⌝ }
-{
-    if pad::pad_bool(&head.renamed, p) {
-        return pad::pad_number(&head.newhats, p);
-    }
-    pad::pad_number(&head.hats, p)
-}
-
 // A pad's first line: its number, whether it is connected, and its hats.
 fn first_line(head: Head, text: &mut [u8], at: usize, p: u8) -> usize
     ensures { λ r. ⌜ ((s : Listed) (t : Columns) →
@@ -156,7 +145,7 @@ fn first_line(head: Head, text: &mut [u8], at: usize, p: u8) -> usize
     let connected = lines::labelled(text, at, b"DUMP ", p as u64, SPACE);
     let stands = replay_words::bit(pad::pad_bool(&head.connected, p));
     let end = lines::number(text, connected, stands, SPACE);
-    lines::number(text, end, hats(head, p) as u64, NEWLINE)
+    lines::number(text, end, queries::hats_now(head, p) as u64, NEWLINE)
 }
 
 // A pad's lines; none for one that is not registered.

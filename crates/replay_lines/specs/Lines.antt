@@ -155,7 +155,7 @@ since (buttonAnswer.Refused n) = refused n
 unfoldable pub queryPieces : Asked → List Piece
 queryPieces (asked.Repeat a) = repeated a
 queryPieces (asked.Counter n) = counted n
-queryPieces (asked.Pressed a) = truth (I ∷ S ∷ space ∷ []) a
+queryPieces (asked.Truth a) = truth (I ∷ S ∷ space ∷ []) a
 queryPieces (asked.Value a) = value (Vee ∷ A ∷ L ∷ U ∷ E ∷ space ∷ []) a
 queryPieces (asked.Button a) = button a
 queryPieces (asked.Axis a) = stick a

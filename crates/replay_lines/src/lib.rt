@@ -263,7 +263,7 @@ pub fn query_line(text: &mut [u8], at: usize, answer: Asked) -> usize
     ensures { λ r. ⌜ written (now (text .exit)) r ≡ laidAll (queryPieces answer) (written (now (text .entry)) at) ⌝ }
 {
     match answer {
-        Asked::Pressed(a) => is(text, at, b"IS ", a),
+        Asked::Truth(a) => is(text, at, b"IS ", a),
         Asked::Value(a) => value(text, at, b"VALUE ", a),
         Asked::Threshold(a) => value(text, at, b"THRESHOLD ", a),
         Asked::Button(a) => button(text, at, a),

@@ -11,7 +11,7 @@ use Rattle.rules.specs.declared.Hub.{Hub}
 use Rattle.rules.specs.Forms.{fieldOf}
 use Rattle.rules.specs.Repeat.{repeatOf}
 use Rattle.rules.specs.Queries.{pressedByCode, pressedByName, connectedOf, valueByCode, valueByName, thresholdByCode}
-use Rattle.rules.specs.Queries.{buttonByCode, buttonByName, axisByCode, axisByName, nameByCode, codeByName, downOf, lowestPressed}
+use Rattle.rules.specs.Queries.{buttonByCode, buttonByName, axisByCode, axisByName, nameByCode, codeByName, downOf, lowestPressed, oldOf}
 use Rattle.replay_answers.specs.declared.Asked.{Asked}
 use Rattle.replay_answers.specs.declared.Asked.the-variants as asked
 use Rattle.replay_answers.specs.Opcodes as opcodes
@@ -43,7 +43,7 @@ ofHead h opcode payload =
 -- what the state has for it
 unfoldable pub stateByCode : Hub → ℕ → ℕ → ℕ → Asked
 stateByCode h opcode p code =
-    cond (eqb opcode opcodes.pressedByCode) (asked.Pressed (pressedByCode h p code))
+    cond (eqb opcode opcodes.pressedByCode) (asked.Truth (pressedByCode h p code))
     (cond (eqb opcode opcodes.valueByCode) (asked.Value (valueByCode h p code))
     (cond (eqb opcode opcodes.buttonByCode) (asked.Button (buttonByCode h p code))
     (cond (eqb opcode opcodes.axisByCode) (asked.Axis (axisByCode h p code)) asked.Nothing)))
@@ -58,7 +58,7 @@ byCode h opcode p code =
 
 unfoldable pub byName : Hub → ℕ → ℕ → ℕ → Asked
 byName h opcode p name =
-    cond (eqb opcode opcodes.pressedByName) (asked.Pressed (pressedByName h p name))
+    cond (eqb opcode opcodes.pressedByName) (asked.Truth (pressedByName h p name))
     (cond (eqb opcode opcodes.valueByName) (asked.Value (valueByName h p name))
     (cond (eqb opcode opcodes.buttonByName) (asked.Button (buttonByName h p name))
     (cond (eqb opcode opcodes.axisByName) (asked.Axis (axisByName h p name))
@@ -72,11 +72,17 @@ down h payload = sized payload 1 (asked.Down (downOf h (getD payload 0 0)))
 unfoldable pub lowest : Hub → List ℕ → Asked
 lowest h payload = sized payload 1 (asked.Code (lowestPressed h (getD payload 0 0)))
 
--- one of the two, else what the head has
+-- ---- 44: whether a pad is old; pad 1
+
+unfoldable pub old : Hub → List ℕ → Asked
+old h payload = sized payload 1 (asked.Truth (oldOf h (getD payload 0 0)))
+
+-- one of the three, else what the head has
 unfoldable pub byPad : Hub → ℕ → List ℕ → Asked
 byPad h opcode payload =
     cond (eqb opcode opcodes.down) (down h payload)
-    (cond (eqb opcode opcodes.lowest) (lowest h payload) (ofHead h opcode payload))
+    (cond (eqb opcode opcodes.lowest) (lowest h payload)
+    (cond (eqb opcode opcodes.old) (old h payload) (ofHead h opcode payload)))
 
 -- ---- 41: the deadzone calculation and which of the three it was; x 4, y 4, threshold 4 (float bits, no NaN)
 

@@ -10,9 +10,9 @@ use Rattle.rules.specs.declared.Hub.{Hub}
 use Rattle.rules.specs.Forms.{fieldOf}
 use Rattle.rules.specs.Repeat.{repeatOf}
 use Rattle.rules.specs.Queries.{pressedByCode, pressedByName, connectedOf, valueByCode, valueByName, thresholdByCode}
-use Rattle.rules.specs.Queries.{buttonByCode, buttonByName, axisByCode, axisByName, nameByCode, codeByName, downOf, lowestPressed}
+use Rattle.rules.specs.Queries.{buttonByCode, buttonByName, axisByCode, axisByName, nameByCode, codeByName, downOf, lowestPressed, oldOf}
 use Rattle.replay_answers.specs.declared.Asked.the-variants as asked
-use Rattle.replay_queries.specs.Asked.{repeated, stands, ofHead, down, lowest, byPad, stateByCode, byCode, byName}
+use Rattle.replay_queries.specs.Asked.{repeated, stands, ofHead, down, lowest, old, byPad, stateByCode, byCode, byName}
 use Rattle.replay_queries.specs.Asked.{calculated, floatAt, pair, since, queried, askedOf}
 
 module _ (h : Hub) (s : List ℕ) where
@@ -40,9 +40,13 @@ module _ (h : Hub) (s : List ℕ) where
   unfolding askedOf byPad lowest
   row-39 long = rw long
 
+  pub row-44 : length s ≡ 1 → askedOf h 44 s ≡ asked.Truth (oldOf h (getD s 0 0))
+  unfolding askedOf byPad old
+  row-44 long = rw long
+
   -- pad 1, code 4
   module _ (long : length s ≡ 5) where
-    pub row-11 : askedOf h 11 s ≡ asked.Pressed (pressedByCode h (getD s 0 0) (fieldOf s 1 4))
+    pub row-11 : askedOf h 11 s ≡ asked.Truth (pressedByCode h (getD s 0 0) (fieldOf s 1 4))
     unfolding askedOf queried byCode stateByCode
     row-11 = rw long
 
@@ -72,7 +76,7 @@ module _ (h : Hub) (s : List ℕ) where
 
   -- pad 1, name 1
   module _ (long : length s ≡ 2) where
-    pub row-13 : askedOf h 13 s ≡ asked.Pressed (pressedByName h (getD s 0 0) (getD s 1 0))
+    pub row-13 : askedOf h 13 s ≡ asked.Truth (pressedByName h (getD s 0 0) (getD s 1 0))
     unfolding askedOf queried byName
     row-13 = rw long
 

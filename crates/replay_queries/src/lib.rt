@@ -2,6 +2,7 @@
 // its row of the table says (specs/Asked.antt), for every opcode and payload, by the call's own contract: a function here picks the call and reads the payload.
 mod down;
 mod held;
+mod old;
 mod tilt;
 mod timed;
 
@@ -55,6 +56,8 @@ const PAIR: u8 = 41;
 
 const SINCE: u8 = 42;
 
+const OLD: u8 = 44;
+
 // how long the payloads are: pad 1 and code 4, pad 1 and name 1, pad 1
 const CODE_PAYLOAD: usize = 5;
 
@@ -83,7 +86,7 @@ fn state_by_code(
         opcode p code) ⌝ }
 {
     if opcode == PRESSED_BY_CODE {
-        return Asked::Pressed(queries::is_pressed_by_code(
+        return Asked::Truth(queries::is_pressed_by_code(
             head,
             codes,
             hasbutton,
@@ -204,7 +207,7 @@ fn by_name<'s>(
         opcode p name) ⌝ }
 {
     if opcode == PRESSED_BY_NAME {
-        return Asked::Pressed(queries::is_pressed(
+        return Asked::Truth(queries::is_pressed(
             head,
             codes,
             names,
@@ -290,7 +293,7 @@ fn of_head(head: Head, opcode: u8, payload: &[u8]) -> Asked
     Asked::Nothing
 }
 
-// What is down on a pad, else what the head has.
+// What is down on a pad and whether it is old, else what the head has.
 fn by_pad(head: Head, codes: &[u32; 208], opcode: u8, payload: &[u8]) -> Asked
     ensures { λ r. ⌜ ((kinds names renames : List ℕ) (t : Columns) →
         r ≡ byPad (hubOf head (listed (now (codes .entry)) kinds names renames) t) opcode (now (payload .entry))) ⌝ }
@@ -300,6 +303,9 @@ fn by_pad(head: Head, codes: &[u32; 208], opcode: u8, payload: &[u8]) -> Asked
     }
     if opcode == LOWEST {
         return down::lowest(head, codes, payload);
+    }
+    if opcode == OLD {
+        return old::old(head, payload);
     }
     of_head(head, opcode, payload)
 }

@@ -1,5 +1,5 @@
--- The public calls that change the hub, but the pump: new, register, rename, update, insert_event, inc and reset_counter. A refusal leaves the hub as it
--- was. Definitions only.
+-- The public calls that change the hub, but the pump: new, register, register_archived, rename, update, insert_event, inc and reset_counter. A refusal leaves
+-- the hub as it was. Definitions only.
 use Prim.Native.Nat.{ℕ, zero, suc, _+_, _-_, _*_}
 use mathlib.Core.Bool.{Bool, true, false, cond, not}
 use mathlib.Core.List.{List, [], _∷_, map}
@@ -131,18 +131,26 @@ registeredAt h p hats count rows =
     withFlags released (clearedOf (h .flags) (flagsPerPad * p) flagsPerPad)
 
 -- 2: "four pads stand"
-unfoldable pub registerRefusal : ℕ → List ℕ → ℕ
+unfoldable pub registerRefusal : Bool → ℕ → List ℕ → ℕ
 unfolding sheetRefusal
-registerRefusal pads s = first (unlessFits (ltb pads padLimit) 2) (sheetRefusal s)
+registerRefusal archived pads s = first (unlessFits (ltb pads padLimit) 2) (sheetRefusal archived s)
 
 abbrev pub registerBy : ℕ → Hub → List ℕ → Registered
 registerBy zero h s =
     record { hub = registeredAt h (h .pads) (hatsOf s) (countOf s) (rowsOf s (countOf s)); answer = registerAnswer.Pad (h .pads) }
 registerBy (suc number) h s = record { hub = h; answer = registerAnswer.Refused (suc number) }
 
-unfoldable pub registerOf : Hub → List ℕ → Registered
+unfoldable pub registerAs : Bool → Hub → List ℕ → Registered
 unfolding registerRefusal registeredAt hatsOf countOf rowsOf
-registerOf h s = registerBy (registerRefusal (h .pads) s) h s
+registerAs archived h s = registerBy (registerRefusal archived (h .pads) s) h s
+
+-- `register`: new sheets
+abbrev pub registerOf : Hub → List ℕ → Registered
+registerOf h s = registerAs false h s
+
+-- W-212's `register_archived`: "Archived sheets with 1 to 14 go through a second registration call, which takes 0 and 15 too, keeps them as they were"
+abbrev pub registerArchivedOf : Hub → List ℕ → Registered
+registerArchivedOf h s = registerAs true h s
 
 -- ---- rename: "The new names hold at once, hats become 0; state, flags and waiting events stay"
 

@@ -20,7 +20,7 @@ use Rattle.rules.specs.Forms.{recordBytes, kindAxis, eventSize}
 use Rattle.rules.specs.Sheets.{sheetBytes, elementAxis}
 use Rattle.rules.specs.Events.{eventBytes}
 use Rattle.rules.specs.Pump.{Run, pumpOf}
-use Rattle.rules.specs.Calls.{newOf, registerOf}
+use Rattle.rules.specs.Calls.{newOf, registerAs, registerOf}
 
 sheet : List ℕ
 sheet = sheetBytes 0 (record { code = 0x00030010; kind = elementAxis; name = dpadX; min = negsuc 0; max = pos 1; deadzone = 0xffffffff } ∷ [])
@@ -50,9 +50,9 @@ lines =
 
 -- "DRAINED 6"
 drains : run .pumped .answer ≡ Drained 42 6 6
-unfolding run desk batch sheet pumpOf registerOf newOf sheetBytes recordBytes Ieee.ofBits Ieee.lt Ieee.le Ieee.eq Ieee.ne Ieee.ofInt Ieee.sub Ieee.mul Ieee.div Ieee.neg Ieee.add
+unfolding run desk batch sheet pumpOf registerAs newOf sheetBytes recordBytes Ieee.ofBits Ieee.lt Ieee.le Ieee.eq Ieee.ne Ieee.ofInt Ieee.sub Ieee.mul Ieee.div Ieee.neg Ieee.add
 drains = refl
 
 writes : run .out ≡ lines
-unfolding run desk batch sheet lines at pumpOf registerOf newOf sheetBytes recordBytes eventBytes Ieee.ofBits Ieee.toBits Ieee.lt Ieee.le Ieee.eq Ieee.ne Ieee.ofInt Ieee.sub Ieee.mul Ieee.div Ieee.neg Ieee.add
+unfolding run desk batch sheet lines at pumpOf registerAs newOf sheetBytes recordBytes eventBytes Ieee.ofBits Ieee.toBits Ieee.lt Ieee.le Ieee.eq Ieee.ne Ieee.ofInt Ieee.sub Ieee.mul Ieee.div Ieee.neg Ieee.add
 writes = refl

@@ -19,4 +19,5 @@ mod Repeat
 mod Calls
 mod Queries
 mod Down
+mod Old
 mod Answers

@@ -22,11 +22,11 @@ use Rattle.rules.specs.declared.NumberAnswer.the-variants as numberAnswe
 use Rattle.rules.specs.declared.DownAnswer.{DownAnswer}
 use Rattle.rules.specs.declared.DownAnswer.the-variants as downAnswer
 use Rattle.rules.specs.Names.{placesPerPad, nowhere, noName, toNec}
-use Rattle.rules.specs.Sheets.{elementAxis}
+use Rattle.rules.specs.Sheets.{elementAxis, partialOf}
 use Rattle.rules.specs.Places.{placeOf, namedOf, presentNames}
 use Rattle.rules.specs.Refusals.{isRegistered, unlessFits, buttonQueryRefusal, axisQueryRefusal, nameQueryRefusal}
 use Rattle.rules.specs.Down.{lowestOf}
-use Rattle.rules.specs.Hub.{placeIn, namesIn, nameIn, kindAt, elementAt, buttonAt, axisAt, hasButtonAt, hasAxisAt, pressedAt, valueAt}
+use Rattle.rules.specs.Hub.{placeIn, namesIn, nameIn, kindAt, elementAt, buttonAt, axisAt, hasButtonAt, hasAxisAt, pressedAt, valueAt, hatsNow}
 
 -- 6 alone: a query by a code, or by a pad
 abbrev pub padRefusal : Hub → ℕ → ℕ
@@ -146,3 +146,10 @@ unfoldable pub lowestPressed : Hub → ℕ → NumberAnswer
 unfolding isRegistered lowestOf
 lowestPressed h p =
     let k = lowestOf (getD (h .down) p 0) in numberBy (padRefusal h p) (ltb k placesPerPad) (getD (h .codes) (placesPerPad * p + k) 0)
+
+-- ---- W-212: whether a pad is old
+
+-- "marks a partial pad as old; .. A rename clears it, Connected brings it back": the mark is that the present hats are partial
+unfoldable pub oldOf : Hub → ℕ → TruthAnswer
+unfolding isRegistered hatsNow partialOf
+oldOf h p = truthBy (padRefusal h p) (partialOf (hatsNow h p))

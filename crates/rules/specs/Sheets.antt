@@ -1,5 +1,5 @@
--- Pad sheets: their bytes read, and what refuses them, 3, 4 and 5 in that order. Definitions only.
-use Prim.Native.Nat.{ℕ, zero, suc, _+_, _-_, _*_}
+-- Pad sheets: their bytes read, and what refuses them, 3, 4, W-212's 29 and 5 in that order. Definitions only.
+use Prim.Native.Nat.{ℕ, zero, suc, _+_, _-_, _*_, _%_}
 use mathlib.Core.Bool.{Bool, true, false, cond, not, _&&_, _||_}
 use mathlib.Core.List.{List, [], _∷_, _++_}
 use lib.ListN.{length, getD}
@@ -117,15 +117,22 @@ occursTwice s start stride (suc n) i =
     (not (eqb (nameAt s start stride i) noName) && occursIn s start stride (nameAt s start stride i) n (i + 1))
     || occursTwice s start stride n (i + 1)
 
--- ---- "Sheet order: 2, 3, 4, 5"
+-- ---- W-212: "New sheets .. must have hats 0 or 15 in the low four bits", one bit a direction
+
+-- one to three directions are mapped: the low four bits are "1 to 14"
+unfoldable pub partialOf : ℕ → Bool
+partialOf hats = let low = hats % (lastHats + 1) in ltb 0 low && ltb low lastHats
+
+-- ---- "Sheet order: 2, 3, 4, 5"; "29 partial hats, after 4 and before 5", which an archived sheet may have
 
 -- 0 where the sheet is good
-unfoldable pub sheetRefusal : List ℕ → ℕ
-unfolding sheetFits hatsOf countOf elementsFit occursTwice
-sheetRefusal s =
+unfoldable pub sheetRefusal : Bool → List ℕ → ℕ
+unfolding sheetFits hatsOf countOf elementsFit partialOf occursTwice
+sheetRefusal archived s =
     cond (not (sheetFits s)) 3
     (cond (ltb lastHats (hatsOf s) || not (elementsFit s (countOf s) 0)) 4
-    (cond (occursTwice s (sheetOpening + nameOffset) elementSize (countOf s) 0) 5 0))
+    (cond (not archived && partialOf (hatsOf s)) 29
+    (cond (occursTwice s (sheetOpening + nameOffset) elementSize (countOf s) 0) 5 0)))
 
 -- ---- "rename list not one name per element" 3, a name that is none 4, a name twice 5
 

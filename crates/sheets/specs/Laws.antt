@@ -15,7 +15,7 @@ use Rattle.numbers.specs.Constants.{withinOf, wholeLimit, deadzoneWithinOf}
 use Rattle.rules.specs.declared.SheetElement.{SheetElement}
 use Rattle.rules.specs.Names.{nameAllowed, elementLimit}
 use Rattle.rules.specs.Forms.{opens}
-use Rattle.rules.specs.Sheets.{sheetOpening, elementSize, nameOffset, elementButton, elementAxis, lastHats, elementOf, hatsOf, countOf, sheetFits, isZero, buttonFits, axisFits, elementFits, rises, elementsFit, occursTwice, sheetRefusal, namesFit, renameListRefusal}
+use Rattle.rules.specs.Sheets.{sheetOpening, elementSize, nameOffset, elementButton, elementAxis, lastHats, elementOf, hatsOf, countOf, sheetFits, isZero, buttonFits, axisFits, elementFits, rises, elementsFit, partialOf, occursTwice, sheetRefusal, namesFit, renameListRefusal}
 
 -- ---- tests taken apart
 
@@ -61,6 +61,23 @@ module _ (s : List ℕ) (h : sheetFits s ≡ true) where
       (right (opens s 0 (length s)) (leb (countOf s) elementLimit)
       (right (eqb (length s) (sheetOpening + elementSize * countOf s)) (opens s 0 (length s) && leb (countOf s) elementLimit) h))
 
+-- what either call takes, the archived one takes
+pub archived-takes : (archived : Bool) (s : List ℕ) → sheetRefusal archived s ≡ 0 → sheetRefusal true s ≡ 0
+unfolding sheetRefusal
+archived-takes true s h = h
+archived-takes false s h =
+    by (sheetFits s) (ltb lastHats (hatsOf s) || not (elementsFit s (countOf s) 0)) (partialOf (hatsOf s))
+    (occursTwice s (sheetOpening + nameOffset) elementSize (countOf s) 0) h
+  where
+    by :
+        (fits breaks partial twice : Bool) →
+        _≡_ {A = ℕ} (cond (not fits) 3 (cond breaks 4 (cond partial 29 (cond twice 5 0)))) 0 →
+        _≡_ {A = ℕ} (cond (not fits) 3 (cond breaks 4 (cond twice 5 0))) 0
+    by false breaks partial twice h = h
+    by true true partial twice h = h
+    by true false true twice h = absurd (no-number 28 h)
+    by true false false twice h = h
+
 -- a sheet that is not refused
 pub record Good (s : List ℕ) : Type 0 where
   pub fits : sheetFits s ≡ true
@@ -70,7 +87,7 @@ pub record Good (s : List ℕ) : Type 0 where
   pub keep : elementsFit s (countOf s) 0 ≡ true
   pub once : occursTwice s (sheetOpening + nameOffset) elementSize (countOf s) 0 ≡ false
 
-pub good : (s : List ℕ) → sheetRefusal s ≡ 0 → Good s
+pub good : (s : List ℕ) → sheetRefusal true s ≡ 0 → Good s
 unfolding sheetRefusal
 good s h =
     let p = passes (sheetFits s) (ltb lastHats (hatsOf s) || not (elementsFit s (countOf s) 0)) (occursTwice s (sheetOpening + nameOffset) elementSize (countOf s) 0) h in
@@ -106,7 +123,7 @@ element-keeps s (suc n) i (suc k) h l =
     let p = element-keeps s n (i + 1) k (first-keeps s n i h .2) m in
     (subst (λ (j : ℕ). elementFits (elementOf s j) ≡ true) e (p .0), subst (λ (j : ℕ). rises s j ≡ true) e (p .1))
 
-pub element-fits : (s : List ℕ) → sheetRefusal s ≡ 0 → (i : ℕ) → i < countOf s → elementFits (elementOf s i) ≡ true
+pub element-fits : (s : List ℕ) → sheetRefusal true s ≡ 0 → (i : ℕ) → i < countOf s → elementFits (elementOf s i) ≡ true
 element-fits s h i l =
     let e : 0 + i ≡ i = omega arith in
     subst (λ (j : ℕ). elementFits (elementOf s j) ≡ true) e (element-keeps s (countOf s) 0 i (good s h .keep) l .0)

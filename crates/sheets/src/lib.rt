@@ -1,5 +1,6 @@
-// Pad sheets and rename lists read from lent bytes: the sheet's hats and elements, or the refusals 3, 4 and 5 in that order.
+// Pad sheets and rename lists read from lent bytes: the sheet's hats and elements, or the refusals 3, 4, 29 and 5 in that order.
 use refusals::first;
+use refusals::hats_refusal;
 use refusals::unless_fits;
 use rules::ELEMENT_AXIS;
 use rules::ELEMENT_BUTTON;
@@ -217,9 +218,9 @@ fn sheet_fits(s: &[u8]) -> bool
     count <= ELEMENT_LIMIT
 }
 
-// "Sheet order: 2, 3, 4, 5"; 0 where the sheet is good.
-pub fn sheet_refusal(s: &[u8]) -> u8
-    ensures { λ r. ⌜ r ≡ sheetRefusal (now (s .entry)) ⌝ }
+// "Sheet order: 2, 3, 4, 5"; "29 partial hats, after 4 and before 5", but for an archived sheet. 0 where the sheet is good.
+pub fn sheet_refusal(archived: bool, s: &[u8]) -> u8
+    ensures { λ r. ⌜ r ≡ sheetRefusal archived (now (s .entry)) ⌝ }
 {
     if !sheet_fits(s) {
         return 3;
@@ -227,11 +228,12 @@ pub fn sheet_refusal(s: &[u8]) -> u8
     let count = s[4] as usize;
     let hats = unless_fits(!(LAST_HATS < s[3]), 4);
     let rules = unless_fits(elements_fit(s, count), 4);
+    let partial = hats_refusal(archived, s[3]);
     let names = unless_fits(
         !occurs_twice(s, SHEET_OPENING + NAME_OFFSET, ELEMENT_SIZE, count),
         5,
     );
-    first(hats, first(rules, names))
+    first(hats, first(rules, first(partial, names)))
 }
 
 // ---- rename lists

@@ -14,7 +14,7 @@ use Rattle.rules.specs.declared.RepeatAnswer.{RepeatAnswer}
 use Rattle.rules.specs.declared.RepeatAnswer.the-variants.{Due, Quiet, Refused}
 use Rattle.rules.specs.Sheets.{sheetBytes, elementButton}
 use Rattle.rules.specs.Events.{eventBytes}
-use Rattle.rules.specs.Calls.{newOf, registerOf, updateOf}
+use Rattle.rules.specs.Calls.{newOf, registerAs, registerOf, updateOf}
 use Rattle.rules.specs.Repeat.{repeatOf}
 
 -- a pad of one button, named South
@@ -29,7 +29,7 @@ unfolding sheetBytes
 sheet = sheetBytes 0 (record { code = button; kind = elementButton; name = south; min = pos 0; max = pos 0; deadzone = 0 } ∷ [])
 
 unfoldable pub desk : Hub
-unfolding newOf registerOf sheet Ieee.ofBits Ieee.lt Ieee.le
+unfolding newOf registerAs sheet Ieee.ofBits Ieee.lt Ieee.le
 desk = registerOf (newOf (Ieee.ofBits binary32 0x3f400000) (Ieee.ofBits binary32 0x3f000000) false true true .hub) sheet .hub
 
 -- the event told to the hub

@@ -19,7 +19,7 @@ use Rattle.rules.specs.Names.{dpadX}
 use Rattle.rules.specs.Forms.{recordBytes, kindAxis}
 use Rattle.rules.specs.Sheets.{sheetBytes, elementAxis}
 use Rattle.rules.specs.Pump.{Run, pumpOf}
-use Rattle.rules.specs.Calls.{newOf, registerOf}
+use Rattle.rules.specs.Calls.{newOf, registerAs, registerOf}
 use Rattle.rules.specs.Answers.{registerSays, pumpSays}
 
 -- ---- 01's example: "One axis element 0x00030010, name 39, -1..1, hats 0; values -1 at 100, 1 at 200"
@@ -41,7 +41,7 @@ unfolding newOf Ieee.ofBits Ieee.lt Ieee.le
 bare = newOf (Ieee.ofBits binary32 0x3f400000) (Ieee.ofBits binary32 0x3f000000) false true true .hub
 
 unfoldable pub desk : Hub
-unfolding bare sheet registerOf Ieee.ofInt Ieee.sub Ieee.mul Ieee.div
+unfolding bare sheet registerAs Ieee.ofInt Ieee.sub Ieee.mul Ieee.div
 desk = registerOf bare sheet .hub
 
 abbrev pub room : List ℕ
@@ -51,7 +51,7 @@ abbrev pub allowed : ℕ
 allowed = 100
 
 pub first-pad : registerOf bare sheet .answer ≡ registerAnswer.Pad 0
-unfolding bare sheet registerOf newOf Ieee.ofBits Ieee.lt Ieee.le Ieee.ofInt Ieee.sub Ieee.mul Ieee.div
+unfolding bare sheet registerAs newOf Ieee.ofBits Ieee.lt Ieee.le Ieee.ofInt Ieee.sub Ieee.mul Ieee.div
 first-pad = refl
 
 one-move : pumpOf desk (move (negsuc 0) 100) 0 room allowed .pumped .answer ≡ Drained 21 2 2

@@ -21,15 +21,16 @@ use Rattle.rules.specs.Events.{formEvent}
 use Rattle.rules.specs.Hub.{pastSlot}
 use Rattle.rules.specs.Step.{headAfter, updatedAt, updatedOf, nextRecordOf, stepHub}
 use Rattle.rules.specs.Pump.{Progress, Verdict, going, stopping, refusing, steppedBy, stepped, verdictOf, runOf, startOf, pumpBy, pumpOf}
-use Rattle.rules.specs.Calls.{freshHub, idleHub, newBy, newOf, registeredAt, registerRefusal, registerBy, registerOf, renamedAt, renameRefusal, renameBy, renameOf, formPlace, updateFormBy, updateBy, updateOf, insertFormBy, insertBy, insertOf, countedAt, incOf, resetOf}
+use Rattle.rules.specs.Calls.{freshHub, idleHub, newBy, newOf, registeredAt, registerRefusal, registerBy, registerAs, renamedAt, renameRefusal, renameBy, renameOf, formPlace, updateFormBy, updateBy, updateOf, insertFormBy, insertBy, insertOf, countedAt, incOf, resetOf}
 use Rattle.theory_calls.specs.Waiting.{ringList, waitingList, Away, restOf}
 use Rattle.theory_calls.specs.Weight.{weigh}
 use Rattle.theory_calls.specs.Queue.{Sound, sound-waiting, pushesIn, nothing-lost, others-stay, step-sound, insert-sound}
 
--- a hub that the public calls lead to; a pump makes steps, whatever record it looks at
+-- a hub that the public calls lead to; register and register_archived are one case, with the word that tells them apart, and a pump makes steps, whatever
+-- record it looks at
 pub data Reached : Hub → Type 0 where
   new : (pressed released : Float) (reversed filters updates : Bool) → Reached (newOf pressed released reversed filters updates .hub)
-  register : {h : Hub} (sheet : List ℕ) → Reached h → Reached (registerOf h sheet .hub)
+  register : {h : Hub} (archived : Bool) (sheet : List ℕ) → Reached h → Reached (registerAs archived h sheet .hub)
   rename : {h : Hub} (pad : ℕ) (list : List ℕ) → Reached h → Reached (renameOf h pad list .hub)
   step : {h : Hub} (l : NextRecord) → Reached h → Reached (stepHub h l)
   update : {h : Hub} (event : List ℕ) → Reached h → Reached (updateOf h event .hub)
@@ -94,10 +95,10 @@ insert-call-sound eventRead.Malformed h z = z
 -- ---- every hub that is reached
 
 pub reached-sound : {h : Hub} → Reached h → Sound h
-unfolding newOf registerOf renameOf updateOf insertOf incOf resetOf countedAt
+unfolding newOf registerAs renameOf updateOf insertOf incOf resetOf countedAt
 reached-sound (new pressed released reversed filters updates) =
     new-sound (thresholdsRefusal pressed released) _ (fresh-sound pressed released reversed filters updates)
-reached-sound (register {h} sheet w) = register-sound (registerRefusal (h .pads) sheet) h sheet (reached-sound w)
+reached-sound (register {h} archived sheet w) = register-sound (registerRefusal archived (h .pads) sheet) h sheet (reached-sound w)
 reached-sound (rename {h} pad list w) = rename-sound (renameRefusal h pad list) h pad list (reached-sound w)
 reached-sound (step {h} l w) = step-sound h l (reached-sound w)
 reached-sound (update {h} event w) = update-sound (readEvent event) h (reached-sound w)

@@ -11,22 +11,22 @@ use lib.ListN.{length, getD}
 use Rattle.rules.specs.declared.Hub.{Hub}
 use Rattle.rules.specs.Names.{placesPerPad, nowhere, noName}
 use Rattle.rules.specs.Forms.{readEvent}
-use Rattle.rules.specs.Sheets.{elementAxis}
+use Rattle.rules.specs.Sheets.{elementAxis, partialOf}
 use Rattle.rules.specs.Refusals.{thresholdsRefusal, pumpRefusal, repeatRefusal, buttonQueryRefusal, axisQueryRefusal, nameQueryRefusal}
 use Rattle.rules.specs.Events.{eventBytes}
 use Rattle.rules.specs.Down.{lowestOf}
-use Rattle.rules.specs.Hub.{placeIn, nameIn, kindAt, elementAt, buttonAt, axisAt, hasButtonAt, hasAxisAt, pressedAt, valueAt}
+use Rattle.rules.specs.Hub.{placeIn, nameIn, kindAt, elementAt, buttonAt, axisAt, hasButtonAt, hasAxisAt, pressedAt, valueAt, hatsNow}
 use Rattle.rules.specs.Pump.{drained, pumpOf}
 use Rattle.rules.specs.Repeat.{duePlace, repeatedAt, repeatOf}
-use Rattle.rules.specs.Calls.{freshHub, newBy, newOf, registerRefusal, registerOf, renameRefusal, renameBy, renameOf, updateOf, insertOf}
+use Rattle.rules.specs.Calls.{freshHub, newBy, newOf, registerRefusal, registerAs, registerOf, renameRefusal, renameBy, renameOf, updateOf, insertOf}
 use Rattle.rules.specs.Queries.{padRefusal, namedIn, buttonPlace, pressedByCode, pressedByName, connectedOf, valueByCode, valueByName, thresholdByCode}
-use Rattle.rules.specs.Queries.{buttonByCode, buttonByName, axisByCode, axisByName, nameByCode, codeByName, downOf, lowestPressed}
+use Rattle.rules.specs.Queries.{buttonByCode, buttonByName, axisByCode, axisByName, nameByCode, codeByName, downOf, lowestPressed, oldOf}
 use Rattle.rules.specs.Answers.{served, refused, bit, answerSays, registerSays, pumpSays, repeatSays, truthSays, valueSays, buttonSays, axisSays, numberSays, downSays}
 use Rattle.theory_calls.specs.Machines as machines
 use Rattle.theory_calls.specs.Judged.{judged, present, buttonValues, axisValues, eventRefusal, updateRefusal, queueRefusal, pumpEnding, pumpJudged}
 use Rattle.theory_calls.specs.Judged.{done-said, register-said, pump-said, update-said, insert-said, repeat-said, truth-said, value-said, button-said, axis-said, number-said, name-said, down-said}
 
--- ---- new: 1. register: 2, 3, 4, 5. rename: 6, 7, 3, 4, 5
+-- ---- new: 1. register: 2, 3, 4, 29, 5. register_archived: 2, 3, 4, 5. rename: 6, 7, 3, 4, 5
 
 pub said-new : (pressed released : Float) (reversed filters updates : Bool)
     → answerSays (newOf pressed released reversed filters updates .answer) ≡ judged (thresholdsRefusal pressed released) []
@@ -35,11 +35,11 @@ said-new pressed released reversed filters updates =
     done-said (λ (number : ℕ). newBy number (freshHub pressed released reversed filters updates)) refl (λ (number : ℕ). refl)
     (thresholdsRefusal pressed released)
 
--- the pad's number
-pub said-register : (h : Hub) (sheet : List ℕ)
-    → registerSays (registerOf h sheet .answer) ≡ judged (registerRefusal (h .pads) sheet) (h .pads ∷ [])
-unfolding registerOf
-said-register h sheet = register-said (registerRefusal (h .pads) sheet) h sheet
+-- the pad's number, of register (false) and of register_archived (true)
+pub said-register : (archived : Bool) (h : Hub) (sheet : List ℕ)
+    → registerSays (registerAs archived h sheet .answer) ≡ judged (registerRefusal archived (h .pads) sheet) (h .pads ∷ [])
+unfolding registerAs
+said-register archived h sheet = register-said (registerRefusal archived (h .pads) sheet) h sheet
 
 pub said-rename : (h : Hub) (p : ℕ) (list : List ℕ) → answerSays (renameOf h p list .answer) ≡ judged (renameRefusal h p list) []
 unfolding renameOf
@@ -155,6 +155,11 @@ module _ (h : Hub) (p : ℕ) where
       numberSays (lowestPressed h p) ≡ judged (padRefusal h p) (present (ltb k placesPerPad) (getD (h .codes) (placesPerPad * p + k) 0 ∷ []))
   unfolding lowestPressed
   said-lowest-pressed = number-said (padRefusal h p) _ _
+
+  -- W-212
+  pub said-is-old : truthSays (oldOf h p) ≡ judged (padRefusal h p) (bit (partialOf (hatsNow h p)) ∷ [])
+  unfolding oldOf
+  said-is-old = truth-said (padRefusal h p) _
 
 -- ---- 01's padlog example: its sheet becomes pad 0; "DRAINED 6", all 42 bytes taken and 6 events written. A place past the end is given back
 

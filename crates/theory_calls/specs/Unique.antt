@@ -21,9 +21,9 @@ use Rattle.rules.specs.declared.DownAnswer.{DownAnswer}
 use Rattle.rules.specs.Pump.{Run, pumpOf}
 use Rattle.rules.specs.Tilt.{pumpTilt}
 use Rattle.rules.specs.Repeat.{repeatOf}
-use Rattle.rules.specs.Calls.{newOf, registerOf, renameOf, updateOf, insertOf, incOf, resetOf}
+use Rattle.rules.specs.Calls.{newOf, registerAs, renameOf, updateOf, insertOf, incOf, resetOf}
 use Rattle.rules.specs.Queries.{pressedByCode, pressedByName, connectedOf, valueByCode, valueByName, thresholdByCode}
-use Rattle.rules.specs.Queries.{buttonByCode, buttonByName, axisByCode, axisByName, nameByCode, codeByName, downOf, lowestPressed}
+use Rattle.rules.specs.Queries.{buttonByCode, buttonByName, axisByCode, axisByName, nameByCode, codeByName, downOf, lowestPressed, oldOf}
 
 -- a promise leaves one answer
 abbrev pub One : {A : Type 0} → (A → Type 0) → Type 0
@@ -37,14 +37,15 @@ one-owed owed is r s p q = is r p ∙ sym (is s q)
 pub one-equation : {A : Type 0} (owed : A) → One (λ (r : A). r ≡ owed)
 one-equation owed = one-owed owed (λ r e. e)
 
--- ---- new, register and rename: the answer and the hub
+-- ---- new, register, register_archived and rename: the answer and the hub
 
 pub unique-new : (pressed released : Float) (reversed filters updates : Bool)
     → One (λ (r : Answered). r ≡ newOf pressed released reversed filters updates)
 unique-new pressed released reversed filters updates = one-equation _
 
-pub unique-register : (h : Hub) (sheet : List ℕ) → One (λ (r : Registered). r ≡ registerOf h sheet)
-unique-register h sheet = one-equation _
+-- register (false) and register_archived (true)
+pub unique-register : (archived : Bool) (h : Hub) (sheet : List ℕ) → One (λ (r : Registered). r ≡ registerAs archived h sheet)
+unique-register archived h sheet = one-equation _
 
 pub unique-rename : (h : Hub) (p : ℕ) (list : List ℕ) → One (λ (r : Answered). r ≡ renameOf h p list)
 unique-rename h p list = one-equation _
@@ -137,6 +138,9 @@ module _ (h : Hub) where
 
   pub unique-lowest-pressed : (p : ℕ) → One (λ (r : NumberAnswer). r ≡ lowestPressed h p)
   unique-lowest-pressed p = one-equation _
+
+  pub unique-is-old : (p : ℕ) → One (λ (r : TruthAnswer). r ≡ oldOf h p)
+  unique-is-old p = one-equation _
 
   pub unique-waiting : One (λ (r : ℕ). r ≡ h .waiting)
   unique-waiting = one-equation _

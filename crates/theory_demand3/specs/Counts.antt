@@ -56,8 +56,8 @@ counts-on s t u b one rest =
 
 call-counts : (s : Script) → Allowed s → (c : Call) (b : ℕ) → Still (play pumpOf s) b → Counts s (s then c) b
 unfolding play recordsOf eventsOf
-call-counts s ok (register sheet) b t =
-    record { bound = b; tail = register-still (script-played s ok) sheet b t; more = omega arith; few = omega arith }
+call-counts s ok (register archived sheet) b t =
+    record { bound = b; tail = register-still (script-played s ok) archived sheet b t; more = omega arith; few = omega arith }
 call-counts s ok (pump batch place out allowance) b t =
     let c = pump-counts (play pumpOf s) batch place out allowance (recordsOf pumpOf s) (script-played s ok) b t in
     let n = (placeSaid (said pumpOf (play pumpOf s) batch place out allowance) - place) / recordSize in

@@ -27,7 +27,7 @@ use Rattle.rules.specs.Places.{noElement, listedRow}
 use Rattle.rules.specs.Refusals.{thresholdsRefusal}
 use Rattle.rules.specs.Events.{eventBytes}
 use Rattle.rules.specs.Repeat.{repeatOf}
-use Rattle.rules.specs.Calls.{newOf, registerOf, updateOf, incOf, resetOf}
+use Rattle.rules.specs.Calls.{newOf, registerAs, updateOf, incOf, resetOf}
 use Rattle.rules.specs.Queries.{pressedByCode}
 use Rattle.theory_calls.specs.Machines.{Machine, said, placeSaid, eventsSaid, stepsSaid}
 use Rattle.theory_history.specs.Rule.{Bytes, recordsFrom, Reading, Reads, nothing, held, isDirection, buttonReads, triggerReads, hatValue}
@@ -39,9 +39,10 @@ pub record Settings : Type 0 where
   pub released : Float
   pub reversed : Bool
 
--- a repeat's event is fed back at once through `update`, or never; queries change nothing and may stand anywhere
+-- archived: W-212's register_archived is the call with true, `register` the one with false; a repeat's event is fed back at once through `update`, or never;
+-- queries change nothing and may stand anywhere
 pub data Call : Type 0 where
-  register : (sheet : List ℕ) → Call
+  register : (archived : Bool) (sheet : List ℕ) → Call
   pump : (batch : List ℕ) (place : ℕ) (out : List ℕ) (allowance : ℕ) → Call
   inc : Call
   reset : Call
@@ -60,7 +61,7 @@ goesOn s (c ∷ cs) = goesOn (s then c) cs
 
 -- the settings are not refused, and a sheet is bytes
 abbrev pub Lends : Call → Type 0
-Lends (register sheet) = Bytes sheet
+Lends (register archived sheet) = Bytes sheet
 Lends (pump batch place out allowance) = Unit
 Lends inc = Unit
 Lends reset = Unit
@@ -78,7 +79,7 @@ fedBack repeatAnswer.Quiet h = h
 fedBack (repeatAnswer.Refused number) h = h
 
 abbrev pub called : Machine → Call → Hub → Hub
-called m (register sheet) h = registerOf h sheet .hub
+called m (register archived sheet) h = registerAs archived h sheet .hub
 called m (pump batch place out allowance) h = m h batch place out allowance .pumped .hub
 called m inc h = incOf h
 called m reset h = resetOf h
@@ -101,7 +102,7 @@ takenBy a batch place rs = recordsFrom ((placeSaid a - place) / recordSize) batc
 unfoldable pub recordsOf : Machine → Script → List RawRecord
 unfolding play
 recordsOf m (new t) = []
-recordsOf m (s then register sheet) = recordsOf m s
+recordsOf m (s then register archived sheet) = recordsOf m s
 recordsOf m (s then pump batch place out allowance) = takenBy (said m (play m s) batch place out allowance) batch place (recordsOf m s)
 recordsOf m (s then inc) = recordsOf m s
 recordsOf m (s then reset) = recordsOf m s
@@ -112,7 +113,7 @@ recordsOf m (s then repeat after every clock fed) = recordsOf m s
 unfoldable pub eventsOf : Machine → Script → ℕ
 unfolding play
 eventsOf m (new t) = 0
-eventsOf m (s then register sheet) = eventsOf m s
+eventsOf m (s then register archived sheet) = eventsOf m s
 eventsOf m (s then pump batch place out allowance) = eventsOf m s + eventsSaid (said m (play m s) batch place out allowance)
 eventsOf m (s then inc) = eventsOf m s
 eventsOf m (s then reset) = eventsOf m s
@@ -140,7 +141,7 @@ acceptedBy (registerAnswer.Refused number) s sheets = sheets
 unfoldable pub sheetsOf : Machine → Script → List Sheet
 unfolding play
 sheetsOf m (new t) = []
-sheetsOf m (s then register sheet) = acceptedBy (registerOf (play m s) sheet .answer) sheet (sheetsOf m s)
+sheetsOf m (s then register archived sheet) = acceptedBy (registerAs archived (play m s) sheet .answer) sheet (sheetsOf m s)
 sheetsOf m (s then pump batch place out allowance) = sheetsOf m s
 sheetsOf m (s then inc) = sheetsOf m s
 sheetsOf m (s then reset) = sheetsOf m s

@@ -14,7 +14,7 @@ use Rattle.rules.specs.Forms.{kindAxis}
 use Rattle.rules.specs.Sheets.{hatsOf, countOf, elementOf}
 use Rattle.rules.specs.Places.{listedRow}
 use Rattle.rules.specs.Pump.{pumpOf}
-use Rattle.rules.specs.Calls.{newOf, registerOf}
+use Rattle.rules.specs.Calls.{newOf, registerAs}
 use Rattle.rules.specs.Queries.{pressedByCode, valueByCode}
 use Rattle.theory_calls.specs.Machines.{sheet, move, room, allowed}
 use Rattle.theory_history.specs.Rule.{recordsFrom, Reads, held, hatValue, isDirection}
@@ -26,22 +26,22 @@ padlog = record { pressed = Ieee.ofBits binary32 0x3f400000; released = Ieee.ofB
 
 -- the hat is pushed to the left
 unfoldable pub pushed : Script
-pushed = new padlog then register sheet then pump (move (negsuc 0) 100) 0 room allowed
+pushed = new padlog then register false sheet then pump (move (negsuc 0) 100) 0 room allowed
 
 -- and turned over
 unfoldable pub example : Script
-example = new padlog then register sheet then pump (move (negsuc 0) 100 ++ move (pos 1) 200) 0 room allowed
+example = new padlog then register false sheet then pump (move (negsuc 0) 100 ++ move (pos 1) 200) 0 room allowed
 
 abbrev pub hasaxis : ℤ → ℕ → RawRecord
 hasaxis value time = record { kind = kindAxis; pad = 0; code = 0x00030010; value = value; time = time }
 
 -- the records taken, the newest first
 pub taken : recordsOf pumpOf example ≡ hasaxis (pos 1) 200 ∷ hasaxis (negsuc 0) 100 ∷ []
-unfolding example padlog sheet move recordsOf newOf registerOf pumpOf recordsFrom Ieee.ofBits Ieee.lt Ieee.le Ieee.eq Ieee.ne Ieee.ofInt Ieee.sub Ieee.mul Ieee.div Ieee.neg Ieee.add
+unfolding example padlog sheet move recordsOf newOf registerAs pumpOf recordsFrom Ieee.ofBits Ieee.lt Ieee.le Ieee.eq Ieee.ne Ieee.ofInt Ieee.sub Ieee.mul Ieee.div Ieee.neg Ieee.add
 taken = refl
 
 pub six : eventsOf pumpOf example ≡ 6
-unfolding example padlog sheet move eventsOf newOf registerOf pumpOf Ieee.ofBits Ieee.lt Ieee.le Ieee.eq Ieee.ne Ieee.ofInt Ieee.sub Ieee.mul Ieee.div Ieee.neg Ieee.add
+unfolding example padlog sheet move eventsOf newOf registerAs pumpOf Ieee.ofBits Ieee.lt Ieee.le Ieee.eq Ieee.ne Ieee.ofInt Ieee.sub Ieee.mul Ieee.div Ieee.neg Ieee.add
 six = refl
 
 -- what the rule says, from those and the sheet
@@ -72,18 +72,18 @@ rule-axis = refl
 -- ---- what is read
 
 reads-right : Reads (play pumpOf example) 0 codeRight (held true)
-unfolding example padlog sheet move play newOf registerOf pumpOf pressedByCode valueByCode Ieee.ofBits Ieee.lt Ieee.le Ieee.eq Ieee.ne Ieee.ofInt Ieee.sub Ieee.mul Ieee.div Ieee.neg Ieee.add
+unfolding example padlog sheet move play newOf registerAs pumpOf pressedByCode valueByCode Ieee.ofBits Ieee.lt Ieee.le Ieee.eq Ieee.ne Ieee.ofInt Ieee.sub Ieee.mul Ieee.div Ieee.neg Ieee.add
 reads-right = record { pressed = refl; value = refl }
 
 reads-left : Reads (play pumpOf example) 0 codeLeft (held false)
-unfolding example padlog sheet move play newOf registerOf pumpOf pressedByCode valueByCode Ieee.ofBits Ieee.lt Ieee.le Ieee.eq Ieee.ne Ieee.ofInt Ieee.sub Ieee.mul Ieee.div Ieee.neg Ieee.add
+unfolding example padlog sheet move play newOf registerAs pumpOf pressedByCode valueByCode Ieee.ofBits Ieee.lt Ieee.le Ieee.eq Ieee.ne Ieee.ofInt Ieee.sub Ieee.mul Ieee.div Ieee.neg Ieee.add
 reads-left = record { pressed = refl; value = refl }
 
 reads-up : Reads (play pumpOf example) 0 codeUp (held false)
-unfolding example padlog sheet move play newOf registerOf pumpOf pressedByCode valueByCode Ieee.ofBits Ieee.lt Ieee.le Ieee.eq Ieee.ne Ieee.ofInt Ieee.sub Ieee.mul Ieee.div Ieee.neg Ieee.add
+unfolding example padlog sheet move play newOf registerAs pumpOf pressedByCode valueByCode Ieee.ofBits Ieee.lt Ieee.le Ieee.eq Ieee.ne Ieee.ofInt Ieee.sub Ieee.mul Ieee.div Ieee.neg Ieee.add
 reads-up = record { pressed = refl; value = refl }
 
 -- before it is turned over
 pushed-left : Reads (play pumpOf pushed) 0 codeLeft (held true)
-unfolding pushed padlog sheet move play newOf registerOf pumpOf pressedByCode valueByCode Ieee.ofBits Ieee.lt Ieee.le Ieee.eq Ieee.ne Ieee.ofInt Ieee.sub Ieee.mul Ieee.div Ieee.neg Ieee.add
+unfolding pushed padlog sheet move play newOf registerAs pumpOf pressedByCode valueByCode Ieee.ofBits Ieee.lt Ieee.le Ieee.eq Ieee.ne Ieee.ofInt Ieee.sub Ieee.mul Ieee.div Ieee.neg Ieee.add
 pushed-left = record { pressed = refl; value = refl }

@@ -21,9 +21,10 @@ use Rattle.rules.specs.Events.{eventBytes}
 use Rattle.rules.specs.Repeat.{repeatOf}
 use Rattle.rules.specs.Refusals.{thresholdsRefusal, formRefusal}
 use Rattle.rules.specs.Pump.{pumpOf}
-use Rattle.rules.specs.Calls.{freshHub, idleHub, newBy, newOf, registeredAt, registerRefusal, registerBy, registerOf, formPlace, updateBy, updateOf, incOf, resetOf}
+use Rattle.rules.specs.Calls.{freshHub, idleHub, newBy, newOf, registeredAt, registerRefusal, registerBy, registerAs, formPlace, updateBy, updateOf, incOf, resetOf}
 use Rattle.theory_calls.specs.Reach.{pump-keeps}
 use Rattle.theory_calls.specs.Machines.{said}
+use Rattle.theory_registered.specs.Columns.{either-taken}
 use Rattle.theory_registered.specs.Pads.{Desk, Kept, Alike, alike-kept, next-kept, old-kept, step-alike, update-alike, counted-alike, reached-desk}
 use Rattle.theory_history.specs.Rule.{recordsFrom}
 use Rattle.theory_history.specs.Played as played
@@ -57,7 +58,7 @@ fed-small (repeatAnswer.Refused number) h w = w
 script-small : (s : Script) → Allowed s → Small (play pumpOf s)
 unfolding play incOf resetOf
 script-small (new t) ok = new-small (t .pressed) (t .released) (t .reversed) true true
-script-small (s then register sheet) ok = register-small (play pumpOf s) sheet (ok .1) (script-small s (ok .0))
+script-small (s then register archived sheet) ok = register-small archived (play pumpOf s) sheet (ok .1) (script-small s (ok .0))
 script-small (s then pump batch place out allowance) ok = pump-small (play pumpOf s) batch place out allowance (script-small s (ok .0))
 script-small (s then inc) ok = counted-small (play pumpOf s) _ (script-small s (ok .0))
 script-small (s then reset) ok = counted-small (play pumpOf s) 0 (script-small s (ok .0))
@@ -75,7 +76,7 @@ fed-played h rs after every clock (repeatAnswer.Refused number) is small w = w
 pub script-played : (s : Script) → Allowed s → Played (play pumpOf s) (recordsOf pumpOf s)
 unfolding play recordsOf
 script-played (new t) ok = played.fresh (t .pressed) (t .released) (t .reversed) ok
-script-played (s then register sheet) ok = played.register sheet (script-played s (ok .0))
+script-played (s then register archived sheet) ok = played.register archived sheet (script-played s (ok .0))
 script-played (s then pump batch place out allowance) ok = pump-played (play pumpOf s) (recordsOf pumpOf s) batch place out allowance (script-played s (ok .0))
 script-played (s then inc) ok = played.inc (script-played s (ok .0))
 script-played (s then reset) ok = played.reset (script-played s (ok .0))
@@ -113,7 +114,7 @@ unfolding freshHub idleHub
 new-sheets zero t = record { pads = refl; each = λ p short. absurd (omega arith) }
 new-sheets (suc number) t = record { pads = refl; each = λ p short. absurd (omega arith) }
 
-module _ (h : Hub) (sheet : List ℕ) (sheets : List Sheet) (d : Desk h) (taken : registerRefusal (h .pads) sheet ≡ 0) (w : Sheets h sheets) where
+module _ (h : Hub) (sheet : List ℕ) (sheets : List Sheet) (d : Desk h) (taken : registerRefusal true (h .pads) sheet ≡ 0) (w : Sheets h sheets) where
   abbrev all : List Sheet
   all = sheets ++ (sheetRead sheet ∷ [])
 
@@ -137,16 +138,18 @@ module _ (h : Hub) (sheet : List ℕ) (sheets : List Sheet) (d : Desk h) (taken 
         kept = subst (λ (q : ℕ). Kept (registerBy 0 h sheet .hub) q sheet) (sym last) (next-kept h sheet d taken);
       }
 
-register-sheets : (number : ℕ) (h : Hub) (sheet : List ℕ) (sheets : List Sheet) → Desk h → registerRefusal (h .pads) sheet ≡ number → Sheets h sheets
+register-sheets : (number : ℕ) (h : Hub) (archived : Bool) (sheet : List ℕ) (sheets : List Sheet) → Desk h
+    → registerRefusal archived (h .pads) sheet ≡ number → Sheets h sheets
     → Sheets (registerBy number h sheet .hub) (acceptedBy (registerBy number h sheet .answer) sheet sheets)
 unfolding registeredAt
-register-sheets zero h sheet sheets d taken w =
+register-sheets zero h archived sheet sheets d taken w =
     let long = w .pads in
+    let ok = either-taken archived (h .pads) sheet taken in
     record {
       pads = length-append sheets (sheetRead sheet ∷ []) ∙ omega arith;
-      each = λ p short. pad-by h sheet sheets d taken w p (ltb p (h .pads)) refl short;
+      each = λ p short. pad-by h sheet sheets d ok w p (ltb p (h .pads)) refl short;
     }
-register-sheets (suc number) h sheet sheets d taken w = w
+register-sheets (suc number) h archived sheet sheets d taken w = w
 
 fed-sheets : (a : RepeatAnswer) (h : Hub) (sheets : List Sheet) → Sheets h sheets → Sheets (fedBack a h) sheets
 unfolding updateOf
@@ -155,10 +158,10 @@ fed-sheets repeatAnswer.Quiet h sheets w = w
 fed-sheets (repeatAnswer.Refused number) h sheets w = w
 
 pub script-sheets : (s : Script) → Allowed s → Sheets (play pumpOf s) (sheetsOf pumpOf s)
-unfolding play pumpOf sheetsOf newOf registerOf incOf resetOf
+unfolding play pumpOf sheetsOf newOf registerAs incOf resetOf
 script-sheets (new t) ok = new-sheets (thresholdsRefusal (t .pressed) (t .released)) t
-script-sheets (s then register sheet) ok =
-    register-sheets (registerRefusal (play pumpOf s .pads) sheet) (play pumpOf s) sheet (sheetsOf pumpOf s) (script-desk s (ok .0)) refl (script-sheets s (ok .0))
+script-sheets (s then register archived sheet) ok =
+    register-sheets (registerRefusal archived (play pumpOf s .pads) sheet) (play pumpOf s) archived sheet (sheetsOf pumpOf s) (script-desk s (ok .0)) refl (script-sheets s (ok .0))
 script-sheets (s then pump batch place out allowance) ok =
     pump-keeps (λ (h : Hub). Sheets h (sheetsOf pumpOf s)) (λ h l w. alike-sheets h _ (sheetsOf pumpOf s) (step-alike h l) w) (play pumpOf s) batch place out allowance (script-sheets s (ok .0))
 script-sheets (s then inc) ok = alike-sheets (play pumpOf s) _ (sheetsOf pumpOf s) (counted-alike (play pumpOf s) _) (script-sheets s (ok .0))
@@ -198,9 +201,9 @@ fed-set repeatAnswer.Quiet t h w = w
 fed-set (repeatAnswer.Refused number) t h w = w
 
 pub script-set : (s : Script) → Allowed s → Set (settingsOf s) (play pumpOf s)
-unfolding play pumpOf settingsOf newOf registerOf incOf resetOf
+unfolding play pumpOf settingsOf newOf registerAs incOf resetOf
 script-set (new t) ok = new-set (thresholdsRefusal (t .pressed) (t .released)) t ok
-script-set (s then register sheet) ok = register-set (registerRefusal (play pumpOf s .pads) sheet) (settingsOf s) (play pumpOf s) sheet (script-set s (ok .0))
+script-set (s then register archived sheet) ok = register-set (registerRefusal archived (play pumpOf s .pads) sheet) (settingsOf s) (play pumpOf s) sheet (script-set s (ok .0))
 script-set (s then pump batch place out allowance) ok =
     pump-keeps (Set (settingsOf s)) (λ h l w. same-set (settingsOf s) h _ (step-same h l) w) (play pumpOf s) batch place out allowance (script-set s (ok .0))
 script-set (s then inc) ok = same-set (settingsOf s) (play pumpOf s) _ (counted-same (play pumpOf s) _) (script-set s (ok .0))

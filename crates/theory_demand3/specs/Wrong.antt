@@ -18,7 +18,7 @@ use Rattle.rules.specs.Names.{codeLeft, codeRight}
 use Rattle.rules.specs.Forms.{recordSize, recordFields}
 use Rattle.rules.specs.Refusals.{thresholdsRefusal}
 use Rattle.rules.specs.Pump.{Run, pumpOf}
-use Rattle.rules.specs.Calls.{newOf, registerOf}
+use Rattle.rules.specs.Calls.{newOf, registerAs}
 use Rattle.rules.specs.Queries.{pressedByCode}
 use Rattle.theory_calls.specs.Machines.{Machine, sheet, move, said, eventsSaid, stepsSaid}
 use Rattle.theory_history.specs.Rule.{byteLimit, Bytes, recordsFrom, Reading, held}
@@ -79,11 +79,11 @@ clash a e f = let z : _≡_ {A = ℕ} 0 1 = cc in omega arith
 
 -- the one sheet that is registered, whatever the pump
 pushed-sheets : (m : Machine) → sheetsOf m pushed ≡ sheetRead sheet ∷ []
-unfolding pushed padlog sheet sheetsOf newOf registerOf Ieee.ofBits Ieee.lt Ieee.le Ieee.eq Ieee.ne Ieee.ofInt Ieee.sub Ieee.mul Ieee.div Ieee.neg Ieee.add
+unfolding pushed padlog sheet sheetsOf newOf registerAs Ieee.ofBits Ieee.lt Ieee.le Ieee.eq Ieee.ne Ieee.ofInt Ieee.sub Ieee.mul Ieee.div Ieee.neg Ieee.add
 pushed-sheets m = refl
 
 example-sheets : (m : Machine) → sheetsOf m example ≡ sheetRead sheet ∷ []
-unfolding example padlog sheet sheetsOf newOf registerOf Ieee.ofBits Ieee.lt Ieee.le Ieee.eq Ieee.ne Ieee.ofInt Ieee.sub Ieee.mul Ieee.div Ieee.neg Ieee.add
+unfolding example padlog sheet sheetsOf newOf registerAs Ieee.ofBits Ieee.lt Ieee.le Ieee.eq Ieee.ne Ieee.ofInt Ieee.sub Ieee.mul Ieee.div Ieee.neg Ieee.add
 example-sheets m = refl
 
 -- the rule's case, and the pad's
@@ -102,15 +102,15 @@ module _ (m : Machine) (s : Script) (rs : List RawRecord) (sheets : sheetsOf m s
 -- ---- the hub stays as it is: the rule says that Left is pressed, and it does not read so
 
 leaves-none : play leaves pushed .waiting ≡ 0
-unfolding leaves pushed padlog sheet play newOf registerOf Ieee.ofBits Ieee.lt Ieee.le Ieee.eq Ieee.ne Ieee.ofInt Ieee.sub Ieee.mul Ieee.div Ieee.neg Ieee.add
+unfolding leaves pushed padlog sheet play newOf registerAs Ieee.ofBits Ieee.lt Ieee.le Ieee.eq Ieee.ne Ieee.ofInt Ieee.sub Ieee.mul Ieee.div Ieee.neg Ieee.add
 leaves-none = refl
 
 leaves-records : recordsOf leaves pushed ≡ hasaxis (negsuc 0) 100 ∷ []
-unfolding leaves pushed padlog sheet move recordsOf recordsFrom recordFields newOf registerOf Ieee.ofBits Ieee.lt Ieee.le Ieee.eq Ieee.ne Ieee.ofInt Ieee.sub Ieee.mul Ieee.div Ieee.neg Ieee.add
+unfolding leaves pushed padlog sheet move recordsOf recordsFrom recordFields newOf registerAs Ieee.ofBits Ieee.lt Ieee.le Ieee.eq Ieee.ne Ieee.ofInt Ieee.sub Ieee.mul Ieee.div Ieee.neg Ieee.add
 leaves-records = refl
 
 leaves-left : pressedByCode (play leaves pushed) 0 codeLeft ≡ truthAnswer.Is false
-unfolding leaves pushed padlog sheet play newOf registerOf pressedByCode Ieee.ofBits Ieee.lt Ieee.le Ieee.eq Ieee.ne Ieee.ofInt Ieee.sub Ieee.mul Ieee.div Ieee.neg Ieee.add
+unfolding leaves pushed padlog sheet play newOf registerAs pressedByCode Ieee.ofBits Ieee.lt Ieee.le Ieee.eq Ieee.ne Ieee.ofInt Ieee.sub Ieee.mul Ieee.div Ieee.neg Ieee.add
 leaves-left = refl
 
 pub leaves-refuted : Demand3 leaves → ⊥
@@ -120,15 +120,15 @@ leaves-refuted = refuted leaves pushed _ (pushed-sheets leaves) refl leaves-reco
 -- ---- the second record is only passed over: the rule says that Right is pressed, and it does not read so
 
 advances-none : play onlyAdvances example .waiting ≡ 0
-unfolding onlyAdvances example padlog sheet move play newOf registerOf pumpOf Ieee.ofBits Ieee.lt Ieee.le Ieee.eq Ieee.ne Ieee.ofInt Ieee.sub Ieee.mul Ieee.div Ieee.neg Ieee.add
+unfolding onlyAdvances example padlog sheet move play newOf registerAs pumpOf Ieee.ofBits Ieee.lt Ieee.le Ieee.eq Ieee.ne Ieee.ofInt Ieee.sub Ieee.mul Ieee.div Ieee.neg Ieee.add
 advances-none = refl
 
 advances-records : recordsOf onlyAdvances example ≡ hasaxis (pos 1) 200 ∷ hasaxis (negsuc 0) 100 ∷ []
-unfolding onlyAdvances example padlog sheet move recordsOf recordsFrom newOf registerOf pumpOf Ieee.ofBits Ieee.lt Ieee.le Ieee.eq Ieee.ne Ieee.ofInt Ieee.sub Ieee.mul Ieee.div Ieee.neg Ieee.add
+unfolding onlyAdvances example padlog sheet move recordsOf recordsFrom newOf registerAs pumpOf Ieee.ofBits Ieee.lt Ieee.le Ieee.eq Ieee.ne Ieee.ofInt Ieee.sub Ieee.mul Ieee.div Ieee.neg Ieee.add
 advances-records = refl
 
 advances-right : pressedByCode (play onlyAdvances example) 0 codeRight ≡ truthAnswer.Is false
-unfolding onlyAdvances example padlog sheet move play newOf registerOf pumpOf pressedByCode Ieee.ofBits Ieee.lt Ieee.le Ieee.eq Ieee.ne Ieee.ofInt Ieee.sub Ieee.mul Ieee.div Ieee.neg Ieee.add
+unfolding onlyAdvances example padlog sheet move play newOf registerAs pumpOf pressedByCode Ieee.ofBits Ieee.lt Ieee.le Ieee.eq Ieee.ne Ieee.ofInt Ieee.sub Ieee.mul Ieee.div Ieee.neg Ieee.add
 advances-right = refl
 
 pub advances-refuted : Demand3 onlyAdvances → ⊥

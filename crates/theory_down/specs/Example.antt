@@ -97,7 +97,7 @@ short = withDown desk [] [] []
 
 desk-reached : Reached desk
 unfolding desk bare
-desk-reached = register sheet (new (Ieee.ofBits Ieee.binary32 0x3f400000) (Ieee.ofBits Ieee.binary32 0x3f000000) false true true)
+desk-reached = register false sheet (new (Ieee.ofBits Ieee.binary32 0x3f400000) (Ieee.ofBits Ieee.binary32 0x3f000000) false true true)
 
 short-summed : Summed short
 unfolding short desk pressedAt

@@ -18,10 +18,10 @@ use Rattle.rules.specs.State.{readPressed}
 use Rattle.rules.specs.Hub.{pressedAt}
 use Rattle.rules.specs.Step.{stepHub}
 use Rattle.rules.specs.Pump.{pumpOf}
-use Rattle.rules.specs.Calls.{freshHub, idleHub, newBy, newOf, registerRefusal, registerBy, registerOf, renamedAt, renameRefusal, renameBy, renameOf, formPlace, updateFormBy, updateBy, updateOf, insertedAt, insertFormBy, insertBy, insertOf, countedAt, incOf, resetOf}
+use Rattle.rules.specs.Calls.{freshHub, idleHub, newBy, newOf, registerRefusal, registerBy, registerAs, renamedAt, renameRefusal, renameBy, renameOf, formPlace, updateFormBy, updateBy, updateOf, insertedAt, insertFormBy, insertBy, insertOf, countedAt, incOf, resetOf}
 use Rattle.theory_calls.specs.Reach.{Reached, new, register, rename, step, update, insert, inc, reset, pump-keeps}
 use Rattle.theory_history.specs.Lemmas.Marks.{all-same}
-use Rattle.theory_registered.specs.Columns.{accepted}
+use Rattle.theory_registered.specs.Columns.{accepted, either-taken}
 use Rattle.theory_down.specs.Summed.{Summed, readsOn, axisOn, OnPad, by-pads, on-pad, sums-alike, sums-none}
 use Rattle.theory_down.specs.Stages.{Whole, Placed, Good, updated-good, updated-placed}
 use Rattle.theory_down.specs.Cleared.{Same, same-good, same-placed, step-good, step-placed, registered-good, registered-placed}
@@ -77,11 +77,12 @@ unfolding idleHub
 new-kept zero h w = w
 new-kept (suc number) h w = fresh-kept _ _ _ _ _
 
-register-kept : (h : Hub) (sheet : List ℕ) → Kept h → (number : ℕ) → registerRefusal (h .pads) sheet ≡ number → Kept (registerBy number h sheet .hub)
-register-kept h sheet w zero e =
-    let few = accepted (h .pads) sheet e .0 in
+register-kept : (archived : Bool) (h : Hub) (sheet : List ℕ) → Kept h → (number : ℕ) → registerRefusal archived (h .pads) sheet ≡ number
+    → Kept (registerBy number h sheet .hub)
+register-kept archived h sheet w zero e =
+    let few = accepted (h .pads) sheet (either-taken archived (h .pads) sheet e) .0 in
     record { good = registered-good h sheet few (w .good); placed = registered-placed h sheet few (w .good .whole) (w .placed) }
-register-kept h sheet w (suc number) e = w
+register-kept archived h sheet w (suc number) e = w
 
 rename-kept : (number : ℕ) (h : Hub) (pad : ℕ) (list : List ℕ) → Kept h → Kept (renameBy number h pad list .hub)
 unfolding renamedAt
@@ -116,10 +117,10 @@ counted-kept h n w = same-kept h _ refl w
 -- ---- every hub that is reached
 
 pub reached-kept : {h : Hub} → Reached h → Kept h
-unfolding newOf registerOf renameOf updateOf insertOf incOf resetOf
+unfolding newOf registerAs renameOf updateOf insertOf incOf resetOf
 reached-kept (new pressed released reversed filters updates) =
     new-kept (thresholdsRefusal pressed released) _ (fresh-kept pressed released reversed filters updates)
-reached-kept (register {h} sheet w) = register-kept h sheet (reached-kept w) (registerRefusal (h .pads) sheet) refl
+reached-kept (register {h} archived sheet w) = register-kept archived h sheet (reached-kept w) (registerRefusal archived (h .pads) sheet) refl
 reached-kept (rename {h} pad list w) = rename-kept (renameRefusal h pad list) h pad list (reached-kept w)
 reached-kept (step {h} l w) = step-kept h l (reached-kept w)
 reached-kept (update {h} event w) = update-kept (readEvent event) h (reached-kept w)

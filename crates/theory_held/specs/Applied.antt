@@ -16,7 +16,7 @@ use Rattle.rules.specs.Forms.{readEvent, kindConnected}
 use Rattle.rules.specs.Refusals.{formRefusal}
 use Rattle.rules.specs.Events.{codeOf, formEvent}
 use Rattle.rules.specs.Step.{stepEvent}
-use Rattle.rules.specs.Calls.{registerOf, formPlace}
+use Rattle.rules.specs.Calls.{registerAs, formPlace}
 use Rattle.theory_calls.specs.Reach.{Reached, new, register, rename, step, update, insert, inc, reset}
 
 -- whether an event is of a pad and code
@@ -47,7 +47,7 @@ connects l p = eqb (l .raw .kind) kindConnected && eqb (l .raw .pad) p
 unfoldable pub appliedTo : {h : Hub} → ℕ → ℕ → Reached h → List Event
 unfolding concerns
 appliedTo p c (new pressed released reversed filters updates) = []
-appliedTo p c (register {h} sheet w) = cond (joins (registerOf h sheet .answer) p) [] (appliedTo p c w)
+appliedTo p c (register {h} archived sheet w) = cond (joins (registerAs archived h sheet .answer) p) [] (appliedTo p c w)
 appliedTo p c (rename pad list w) = appliedTo p c w
 appliedTo p c (step {h} l w) = noted (h .updates) p c (stepEvent h l) (cond (connects l p) [] (appliedTo p c w))
 appliedTo p c (update {h} event w) = fed (readEvent event) h p c (appliedTo p c w)

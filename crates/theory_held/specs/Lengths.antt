@@ -15,7 +15,7 @@ use Rattle.rules.specs.Forms.{readEvent}
 use Rattle.rules.specs.Refusals.{thresholdsRefusal, formRefusal, insertRefusal}
 use Rattle.rules.specs.Events.{formEvent}
 use Rattle.rules.specs.Step.{markedOf, marksCleared, filteredHub, pushedOf, takenOf, updatedAt, updatedOf, stepEvent, stepHub}
-use Rattle.rules.specs.Calls.{freshHub, idleHub, newBy, newOf, registeredAt, registerRefusal, registerBy, registerOf, renamedAt, renameRefusal, renameBy, renameOf, formPlace, updateFormBy, updateBy, updateOf, insertedAt, insertFormBy, insertBy, insertOf, countedAt, incOf, resetOf}
+use Rattle.rules.specs.Calls.{freshHub, idleHub, newBy, newOf, registeredAt, registerRefusal, registerBy, registerAs, renamedAt, renameRefusal, renameBy, renameOf, formPlace, updateFormBy, updateBy, updateOf, insertedAt, insertFormBy, insertBy, insertOf, countedAt, incOf, resetOf}
 use Rattle.theory_calls.specs.Reach.{Reached, new, register, rename, step, update, insert, inc, reset}
 use Rattle.theory_history.specs.Lemmas.Cells.{Long}
 use Rattle.theory_history.specs.Lemmas.Marks.{cleared-length}
@@ -86,10 +86,10 @@ insert-long (eventRead.Form f) h w = by (insertRefusal f (h .pads) (formPlace h 
 insert-long eventRead.Malformed h w = w
 
 pub reached-long : {h : Hub} → Reached h → Long h
-unfolding newOf registerOf renameOf stepHub updateOf insertOf incOf resetOf countedAt
+unfolding newOf registerAs renameOf stepHub updateOf insertOf incOf resetOf countedAt
 reached-long (new pressed released reversed filters updates) =
     new-long (thresholdsRefusal pressed released) pressed released reversed filters updates
-reached-long (register {h} sheet w) = register-long (registerRefusal (h .pads) sheet) h sheet (reached-long w)
+reached-long (register {h} archived sheet w) = register-long (registerRefusal archived (h .pads) sheet) h sheet (reached-long w)
 reached-long (rename {h} pad list w) = rename-long (renameRefusal h pad list) h pad list (reached-long w)
 reached-long (step {h} l w) = updated-long (h .updates) _ (stepEvent h l) (taken-long h l (reached-long w))
 reached-long (update {h} event w) = update-long (readEvent event) h (reached-long w)

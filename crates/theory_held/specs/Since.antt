@@ -24,7 +24,7 @@ use Rattle.rules.specs.Events.{formEvent}
 use Rattle.rules.specs.State.{readPressed}
 use Rattle.rules.specs.Hub.{placeIn, hasButtonAt, buttonAt}
 use Rattle.rules.specs.Step.{markedOf, filteredHub, pushedOf, updatedAt, updatedOf, stepEvent, stepHub}
-use Rattle.rules.specs.Calls.{freshHub, idleHub, newBy, newOf, registeredAt, registerRefusal, registerBy, registerOf, renamedAt, renameRefusal, renameBy, renameOf, formPlace, updateFormBy, updateBy, updateOf, insertedAt, insertFormBy, insertBy, insertOf, countedAt, incOf, resetOf}
+use Rattle.rules.specs.Calls.{freshHub, idleHub, newBy, newOf, registeredAt, registerRefusal, registerBy, registerAs, renamedAt, renameRefusal, renameBy, renameOf, formPlace, updateFormBy, updateBy, updateOf, insertedAt, insertFormBy, insertBy, insertOf, countedAt, incOf, resetOf}
 use Rattle.rules.specs.Queries.{padRefusal, buttonBy, buttonByCode}
 use Rattle.theory_calls.specs.Reach.{Reached, new, register, rename, step, update, insert, inc, reset}
 use Rattle.theory_history.specs.Lemmas.Truth.{false-true}
@@ -91,9 +91,9 @@ module _ (p c : ℕ) where
     insert-holds eventRead.Malformed = w
 
   holds : {h : Hub} (w : Reached h) → Holds h p c (appliedTo p c w)
-  unfolding appliedTo newOf registerOf renameOf updateOf insertOf incOf resetOf countedAt
+  unfolding appliedTo newOf registerAs renameOf updateOf insertOf incOf resetOf countedAt
   holds (new pressed released reversed filters updates) = new-holds (thresholdsRefusal pressed released) pressed released reversed filters updates []
-  holds (register {h} sheet w) = register-holds h (appliedTo p c w) (holds w) (registerRefusal (h .pads) sheet) sheet (reached-long w)
+  holds (register {h} archived sheet w) = register-holds h (appliedTo p c w) (holds w) (registerRefusal archived (h .pads) sheet) sheet (reached-long w)
   holds (rename {h} pad list w) = rename-holds h (appliedTo p c w) (holds w) (renameRefusal h pad list) pad list
   holds (step {h} l w) = step-holds h (appliedTo p c w) (holds w) l (reached-long w)
   holds (update {h} event w) = update-holds h (appliedTo p c w) (holds w) (readEvent event) (reached-long w)

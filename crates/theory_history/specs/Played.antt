@@ -21,7 +21,7 @@ use Rattle.rules.specs.Refusals.{thresholdsRefusal, recordRefusal, formRefusal}
 use Rattle.rules.specs.Events.{formEvent}
 use Rattle.rules.specs.Hub.{placeIn, pressedAt}
 use Rattle.rules.specs.Step.{updatedOf, updatedAt, recordKind, stepHub}
-use Rattle.rules.specs.Calls.{freshHub, newBy, newOf, registerRefusal, registeredAt, registerBy, registerOf, formPlace, updateFormBy, updateBy, updateOf, countedAt, incOf, resetOf}
+use Rattle.rules.specs.Calls.{freshHub, newBy, newOf, registerRefusal, registeredAt, registerBy, registerAs, formPlace, updateFormBy, updateBy, updateOf, countedAt, incOf, resetOf}
 use Rattle.theory_calls.specs.Reach as reach
 use Rattle.theory_calls.specs.Reach.{Reached}
 use Rattle.theory_history.specs.Lemmas.Marks.{all-same, cleared-length}
@@ -40,7 +40,7 @@ pub record Repeats (h : Hub) (bytes : List ℕ) : Type 0 where
 pub data Played : Hub → List RawRecord → Type 0 where
   fresh : (pressed released : Float) (reversed : Bool) → thresholdsRefusal pressed released ≡ 0
       → Played (newOf pressed released reversed true true .hub) []
-  register : {h : Hub} {rs : List RawRecord} (sheet : List ℕ) → Played h rs → Played (registerOf h sheet .hub) rs
+  register : {h : Hub} {rs : List RawRecord} (archived : Bool) (sheet : List ℕ) → Played h rs → Played (registerAs archived h sheet .hub) rs
   take : {h : Hub} {rs : List RawRecord} (r : RawRecord) → h .waiting ≡ 0 → recordRefusal (lookAt r) (h .pads) (recordKind h r) ≡ 0 → Played h rs
       → Played (stepHub h (lookAt r)) (r ∷ rs)
   serve : {h : Hub} {rs : List RawRecord} → 0 < h .waiting → Played h rs → Played (stepHub h look) rs
@@ -51,7 +51,7 @@ pub data Played : Hub → List RawRecord → Type 0 where
 -- such a hub is reached by the public calls
 pub reached : {h : Hub} {rs : List RawRecord} → Played h rs → Reached h
 reached (fresh pressed released reversed ok) = reach.new pressed released reversed true true
-reached (register sheet w) = reach.register sheet (reached w)
+reached (register archived sheet w) = reach.register archived sheet (reached w)
 reached (take r none ok w) = reach.step (lookAt r) (reached w)
 reached (serve some w) = reach.step look (reached w)
 reached (inc w) = reach.inc (reached w)
@@ -132,9 +132,9 @@ unfolding updateOf
 update-is h bytes is = ap (λ (r : EventRead). updateBy r h .hub) (is .read)
 
 pub ready : {h : Hub} {rs : List RawRecord} → Played h rs → Ready h
-unfolding newOf registerOf incOf resetOf
+unfolding newOf registerAs incOf resetOf
 ready (fresh pressed released reversed ok) = new-ready (thresholdsRefusal pressed released) pressed released reversed ok
-ready (register {h} sheet w) = register-ready (registerRefusal (h .pads) sheet) h sheet (ready w)
+ready (register {h} archived sheet w) = register-ready (registerRefusal archived (h .pads) sheet) h sheet (ready w)
 ready (take {h} r none ok w) = step-ready h (lookAt r) (ready w)
 ready (serve {h} some w) = step-ready h look (ready w)
 ready (inc {h} w) = counted-ready h _ (ready w)

@@ -58,7 +58,7 @@ axis-of : (e : SheetElement) → e .kind ≡ elementAxis → ((e .kind ≡ eleme
 axis-of e kind (inl b) = let button = b .0 in absurd (omega arith)
 axis-of e kind (inr a) = axis-keeps e (a .1)
 
-module _ (h : Hub) (p : ℕ) (s : List ℕ) (taken : sheetRefusal s ≡ 0) (keeps : Keeps h p s) (j : ℕ) (short : j < placesPerPad) where
+module _ (h : Hub) (p : ℕ) (s : List ℕ) (taken : sheetRefusal true s ≡ 0) (keeps : Keeps h p s) (j : ℕ) (short : j < placesPerPad) where
   kept-axis : kindAt h (placesPerPad * p + j) ≡ elementAxis → Axis h (placesPerPad * p + j)
   unfolding rowAt rowsOf listedRow
   kept-axis kind =

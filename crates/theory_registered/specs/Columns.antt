@@ -18,6 +18,7 @@ use Rattle.rules.specs.Refusals.{first, unlessFits}
 use Rattle.rules.specs.Hub.{pastElement}
 use Rattle.rules.specs.Calls.{laid, rowCode, rowKind, rowName, rowElement, registeredAt, registerRefusal}
 use Rattle.pad.specs.Rising.{NeverFalls}
+use Rattle.sheets.specs.Laws.{archived-takes}
 use Rattle.theory_registered.specs.Laid.{laid-length, laid-before, laid-at}
 use Rattle.theory_registered.specs.Rows.{climbs-rise, places-climb, rows-length}
 
@@ -83,11 +84,18 @@ few-by : (few : Bool) (number : ℕ) → first (unlessFits few 2) number ≡ 0 �
 few-by true number e = (refl, e)
 few-by false number e = absurd (omega arith)
 
-pub accepted : (pads : ℕ) (s : List ℕ) → registerRefusal pads s ≡ 0 → (pads < padLimit) × (sheetRefusal s ≡ 0)
+pub accepted : (pads : ℕ) (s : List ℕ) → registerRefusal true pads s ≡ 0 → (pads < padLimit) × (sheetRefusal true s ≡ 0)
 unfolding registerRefusal
 accepted pads s e =
-    let both = few-by (ltb pads padLimit) (sheetRefusal s) e in
+    let both = few-by (ltb pads padLimit) (sheetRefusal true s) e in
     (ltb-true pads padLimit (both .0), both .1)
+
+-- what either call takes, the archived one takes: so what follows speaks of that one
+pub either-taken : (archived : Bool) (pads : ℕ) (s : List ℕ) → registerRefusal archived pads s ≡ 0 → registerRefusal true pads s ≡ 0
+unfolding registerRefusal
+either-taken archived pads s e =
+    let both = few-by (ltb pads padLimit) (sheetRefusal archived s) e in
+    rw (both .0) (archived-takes archived s (both .1))
 
 abbrev after : Hub → List ℕ → Hub
 after h s = registeredAt h (h .pads) (hatsOf s) (countOf s) (rowsOf s (countOf s))
@@ -142,7 +150,7 @@ module _ (h : Hub) (s : List ℕ) (z : Sized h) where
 
 -- ---- a kept pad's codes do not fall
 
-pub row-rise : (s : List ℕ) → sheetRefusal s ≡ 0 → (i j : ℕ) → i ≤ j → j < placesPerPad → rowAt s i .code ≤ rowAt s j .code
+pub row-rise : (s : List ℕ) → sheetRefusal true s ≡ 0 → (i j : ℕ) → i ≤ j → j < placesPerPad → rowAt s i .code ≤ rowAt s j .code
 unfolding rowAt
 row-rise s taken i j less short =
     rw (List·getD-map rowCode (rowsOf s (countOf s)) i (unlistedRow 0)) at
@@ -159,7 +167,7 @@ module _ (h : Hub) (p : ℕ) (s : List ℕ) (k : Keeps h p s) (i : ℕ) (from : 
 both-ends : (a b x y : ℕ) → a ≡ x → b ≡ y → x ≤ y → a ≤ b
 both-ends a b x y l r m = omega arith
 
-pub keeps-rise : (h : Hub) (p : ℕ) (s : List ℕ) → sheetRefusal s ≡ 0 → Keeps h p s → NeverFalls (h .codes) p
+pub keeps-rise : (h : Hub) (p : ℕ) (s : List ℕ) → sheetRefusal true s ≡ 0 → Keeps h p s → NeverFalls (h .codes) p
 keeps-rise h p s taken k =
     record {
       rises =

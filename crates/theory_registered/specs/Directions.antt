@@ -68,7 +68,7 @@ module _ (s : List ℕ) (n : ℕ) where
       laid-by k i d last e (elementNext s n i d) (directionNext s n i d) (eqb e d) refl refl refl from short room
       (λ left more. rows-have k _ _ _ e more short left)
 
-module _ (h : Hub) (p : ℕ) (s : List ℕ) (stands : p < padLimit) (taken : sheetRefusal s ≡ 0) (keeps : Keeps h p s) (e : ℕ) (short : e < directions) where
+module _ (h : Hub) (p : ℕ) (s : List ℕ) (stands : p < padLimit) (taken : sheetRefusal true s ≡ 0) (keeps : Keeps h p s) (e : ℕ) (short : e < directions) where
   standing : HasCode (rowsOf s (countOf s)) (codeUp + e)
   unfolding rowsOf
   standing =

@@ -45,7 +45,7 @@ pub record Listed (h : Hub) (p : ℕ) (e : SheetElement) : Type 0 where
   pub name : getD (h .names) (placeIn h p (e .code)) noName ≡ e .name
   pub element : elementAt h (placeIn h p (e .code)) ≡ cond (eqb (e .kind) elementButton) noElement (axisElement e)
 
-module _ (h : Hub) (p : ℕ) (s : List ℕ) (stands : p < padLimit) (taken : sheetRefusal s ≡ 0) (keeps : Keeps h p s) (e : ℕ) (short : e < countOf s) where
+module _ (h : Hub) (p : ℕ) (s : List ℕ) (stands : p < padLimit) (taken : sheetRefusal true s ≡ 0) (keeps : Keeps h p s) (e : ℕ) (short : e < countOf s) where
   standing : Stands s (rowsOf s (countOf s)) e
   standing = places-stand s taken e short
 

@@ -21,10 +21,10 @@ use Rattle.rules.specs.Sheets.{sheetRefusal, hatsOf, countOf, elementOf}
 use Rattle.rules.specs.Places.{directions, placeOf, scanOf, rowsOf, convertsOf}
 use Rattle.rules.specs.Refusals.{thresholdsRefusal, formRefusal, insertRefusal}
 use Rattle.rules.specs.Step.{markedOf, pushedOf, filteredHub, updatedAt, updatedOf, stepHub}
-use Rattle.rules.specs.Calls.{rowCode, rowName, freshHub, idleHub, newBy, newOf, registeredAt, registerRefusal, registerBy, registerOf, renamedAt, renameRefusal, renameBy, renameOf, formPlace, updateFormBy, updateBy, updateOf, insertedAt, insertFormBy, insertBy, insertOf, countedAt, incOf, resetOf}
+use Rattle.rules.specs.Calls.{rowCode, rowName, freshHub, idleHub, newBy, newOf, registeredAt, registerRefusal, registerBy, registerAs, renamedAt, renameRefusal, renameBy, renameOf, formPlace, updateFormBy, updateBy, updateOf, insertedAt, insertFormBy, insertBy, insertOf, countedAt, incOf, resetOf}
 use Rattle.pad.specs.Rising.{NeverFalls, place-is-scan}
 use Rattle.theory_calls.specs.Reach.{Reached, new, register, rename, step, update, insert, inc, reset}
-use Rattle.theory_registered.specs.Columns.{Keeps, Sized, laid-places, accepted, register-sized, register-keeps, register-others, keeps-rise}
+use Rattle.theory_registered.specs.Columns.{Keeps, Sized, laid-places, accepted, either-taken, register-sized, register-keeps, register-others, keeps-rise}
 use Rattle.theory_registered.specs.Found.{Listed, listed}
 use Rattle.theory_registered.specs.Directions.{direction-found}
 use Rattle.theory_registered.specs.Unlisted.{Foreign, not-found}
@@ -32,7 +32,7 @@ use Rattle.theory_registered.specs.Converts.{SamePlaces, converts-same}
 
 -- a pad that was registered with this sheet
 pub record Kept (h : Hub) (p : ℕ) (sheet : List ℕ) : Type 0 where
-  pub taken : sheetRefusal sheet ≡ 0
+  pub taken : sheetRefusal true sheet ≡ 0
   pub keeps : Keeps h p sheet
   pub converts : getD (h .converts) p false ≡ convertsOf (hatsOf sheet) (h .codes) (h .names) p
 
@@ -131,7 +131,7 @@ unfolding idleHub
 new-desk zero h d = d
 new-desk (suc number) h d = fresh-desk _ _ _ _ _
 
-module _ (h : Hub) (s : List ℕ) (d : Desk h) (taken : registerRefusal (h .pads) s ≡ 0) where
+module _ (h : Hub) (s : List ℕ) (d : Desk h) (taken : registerRefusal true (h .pads) s ≡ 0) where
   -- the next pad has the sheet that it is given
   pub next-kept : Kept (registerBy 0 h s .hub) (h .pads) s
   unfolding registeredAt
@@ -181,9 +181,9 @@ module _ (h : Hub) (s : List ℕ) (d : Desk h) (taken : registerRefusal (h .pads
         sheets = λ p short. sheet-by p (ltb p (h .pads)) refl (unfold registeredAt in short);
       }
 
-register-desk : (h : Hub) (s : List ℕ) → Desk h → (number : ℕ) → registerRefusal (h .pads) s ≡ number → Desk (registerBy number h s .hub)
-register-desk h s d zero e = taken-desk h s d e
-register-desk h s d (suc number) e = d
+register-desk : (archived : Bool) (h : Hub) (s : List ℕ) → Desk h → (number : ℕ) → registerRefusal archived (h .pads) s ≡ number → Desk (registerBy number h s .hub)
+register-desk archived h s d zero e = taken-desk h s d (either-taken archived (h .pads) s e)
+register-desk archived h s d (suc number) e = d
 
 rename-desk : (number : ℕ) (h : Hub) (pad : ℕ) (list : List ℕ) → Desk h → Desk (renameBy number h pad list .hub)
 unfolding renamedAt
@@ -202,10 +202,10 @@ insert-desk eventRead.Malformed h d = d
 -- ---- every hub that is reached
 
 pub reached-desk : {h : Hub} → Reached h → Desk h
-unfolding newOf registerOf renameOf updateOf insertOf incOf resetOf countedAt
+unfolding newOf registerAs renameOf updateOf insertOf incOf resetOf countedAt
 reached-desk (new pressed released reversed filters updates) =
     new-desk (thresholdsRefusal pressed released) _ (fresh-desk pressed released reversed filters updates)
-reached-desk (register {h} sheet w) = register-desk h sheet (reached-desk w) (registerRefusal (h .pads) sheet) refl
+reached-desk (register {h} archived sheet w) = register-desk archived h sheet (reached-desk w) (registerRefusal archived (h .pads) sheet) refl
 reached-desk (rename {h} pad list w) = rename-desk (renameRefusal h pad list) h pad list (reached-desk w)
 reached-desk (step {h} l w) = alike h _ (step-alike h l) (reached-desk w)
 reached-desk (update {h} event w) = alike h _ (update-alike (readEvent event) h) (reached-desk w)

@@ -22,7 +22,7 @@ codeAt s i = elementOf s i .code
 -- ---- "Codes strictly rise"
 
 -- the element after another has the larger code
-module _ (s : List ℕ) (taken : sheetRefusal s ≡ 0) where
+module _ (s : List ℕ) (taken : sheetRefusal true s ≡ 0) where
   above-before : (i : ℕ) → rises s (i + 1) ≡ true → codeAt s i < codeAt s (i + 1)
   unfolding rises
   above-before i h =
@@ -218,7 +218,7 @@ unfolding rowsFrom
 rows-length zero s n i d last = refl
 rows-length (suc k) s n i d last = ap suc (rows-length k s n _ _ _)
 
-module _ (s : List ℕ) (taken : sheetRefusal s ≡ 0) where
+module _ (s : List ℕ) (taken : sheetRefusal true s ≡ 0) where
   -- the 52 codes do not fall
   pub places-climb : Climbs 0 (map rowCode (rowsOf s (countOf s)))
   unfolding rowsOf

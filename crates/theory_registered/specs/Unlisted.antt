@@ -52,7 +52,7 @@ module _ (s : List ℕ) (c : ℕ) (foreign : Foreign s c) where
       rows-other placesPerPad 0 0 0 (inl left) j short same
 
   -- the code is not found
-  pub not-found : (h : Hub) (p : ℕ) → p < padLimit → sheetRefusal s ≡ 0 → Keeps h p s → placeIn h p c ≡ nowhere
+  pub not-found : (h : Hub) (p : ℕ) → p < padLimit → sheetRefusal true s ≡ 0 → Keeps h p s → placeIn h p c ≡ nowhere
   not-found h p stands taken keeps =
       place-is-scan (h .codes) p c stands (keeps-rise h p s taken keeps) ∙ by (scan-cases (h .codes) c placesPerPad (placesPerPad * p))
     where

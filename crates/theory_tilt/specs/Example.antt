@@ -16,7 +16,7 @@ use Rattle.rules.specs.Forms.{recordBytes, kindAxis}
 use Rattle.rules.specs.Sheets.{sheetBytes, elementAxis}
 use Rattle.rules.specs.Pump.{pumpOf}
 use Rattle.rules.specs.Tilt.{pumpTilt}
-use Rattle.rules.specs.Calls.{registerOf}
+use Rattle.rules.specs.Calls.{registerAs, registerOf}
 use Rattle.theory_calls.specs.Machines.{bare}
 use Rattle.theory_tilt.specs.Parts.{tiltOnward}
 
@@ -75,7 +75,7 @@ unfolding sheetBytes
 sheet = sheetBytes 0 (record { code = 0x00030000; kind = elementAxis; name = 33; min = negsuc 3; max = pos 4; deadzone = 2 } ∷ [])
 
 stick : Hub
-unfolding bare sheet registerOf Ieee.ofInt Ieee.sub Ieee.mul Ieee.div
+unfolding bare sheet registerAs Ieee.ofInt Ieee.sub Ieee.mul Ieee.div
 stick = registerOf bare sheet .hub
 
 tilted : ℕ → List ℕ

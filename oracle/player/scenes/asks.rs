@@ -1,6 +1,8 @@
 //! What a scenario asks between its calls: queries drawn with the rest, and behind what moves them the questions of the
 //! requests. Since when a button is held is asked wherever one was heard of, and draws no number. What is down is asked
-//! of each pad whose buttons a call was about, and at times of another, which is drawn beside all else.
+//! of each pad whose buttons a call was about, and at times of another, which is drawn beside all else. Whether a pad is
+//! old is asked where it is asked whether it stands, behind each registration and rename of it and each Connected, and
+//! at times of any pad, which is drawn with what else the archive asks for.
 
 use super::Scene;
 use crate::lines;
@@ -29,7 +31,10 @@ impl Scene<'_> {
         self.play(opcode, &payload);
         match opcode {
             scenario::BUTTON_BY_CODE => drop(self.play(scenario::HELD_SINCE, &payload)),
-            scenario::STANDS => self.ask_down(pad),
+            scenario::STANDS => {
+                self.ask_down(pad);
+                self.ask_old(pad);
+            }
             _ => (),
         }
     }
@@ -55,12 +60,13 @@ impl Scene<'_> {
         self.ask_down(bytes[4]);
     }
 
-    /// Behind a pump: since when each button is held that it wrote of, and what is down.
+    /// Behind a pump: since when each button is held that it wrote of, what is down, and which pads are old.
     pub(super) fn ask_of_pump(&mut self, lines: &[String]) {
         for (pad, code) in lines::buttons(lines) {
             self.ask_since(pad, code);
         }
         self.ask_down_of_pump(lines);
+        self.ask_old_of_pump(lines);
     }
 
     /// What is down on each pad whose buttons a pump may have moved; at times on any pad, or one that is not registered.
@@ -72,6 +78,21 @@ impl Scene<'_> {
             let pad = self.looks.below(self.traffic.pads.len() as u64 + 1) as u8;
             self.ask_down(pad);
         }
+    }
+
+    /// Whether each pad is old whose Connected a pump wrote of; at times any pad, or one that is not registered.
+    pub(super) fn ask_old_of_pump(&mut self, lines: &[String]) {
+        for pad in lines::connected(lines) {
+            self.ask_old(pad);
+        }
+        if self.archive.random.chance(15) {
+            let pad = self.archive.random.below(self.traffic.pads.len() as u64 + 1) as u8;
+            self.ask_old(pad);
+        }
+    }
+
+    pub(super) fn ask_old(&mut self, pad: u8) {
+        self.play(scenario::IS_OLD, &[pad]);
     }
 
     fn ask_since(&mut self, pad: u8, code: u32) {

@@ -2,8 +2,8 @@
 
 use crate::scenario::{self, Operation};
 use copperyarn::{
-    apply_deadzone, AxisData, ButtonData, Code, Event, EventType, Hub, Name, PadId, Reason, Refusal, Settings, Sheet,
-    Tilt,
+    apply_deadzone, AxisData, ButtonData, Code, Down, Event, EventType, Hub, Name, PadId, Reason, Refusal, Settings,
+    Sheet, Tilt,
 };
 use std::io::{self, Write};
 
@@ -57,6 +57,7 @@ fn answers(hub: &mut Hub, operation: &Operation<'_>) -> Result<Vec<String>, Refu
         Operation::Pump(call) => return Ok(pump(hub, &call)),
         Operation::Dump => return dump(hub),
         Operation::Register(sheet) => format!("PAD {}", hub.register(&Sheet::from_bytes(sheet))?),
+        Operation::RegisterArchived(sheet) => format!("PAD {}", hub.register_archived(&Sheet::from_bytes(sheet))?),
         Operation::Rename(pad, list) => {
             let names: Vec<Name> = list.iter().copied().map(Name).collect();
             hub.rename(PadId(pad), &names).map(|()| "RENAMED".to_string())?
@@ -78,10 +79,8 @@ fn answers(hub: &mut Hub, operation: &Operation<'_>) -> Result<Vec<String>, Refu
         Operation::ByCode(opcode, pad, code) => by_code(hub, opcode, PadId(pad), Code(code))?,
         Operation::ByName(opcode, pad, name) => by_name(hub, opcode, PadId(pad), Name(name))?,
         Operation::Stands(pad) => format!("STANDS {}", u8::from(hub.is_connected(PadId(pad))?)),
-        Operation::Down(pad) => {
-            let down = hub.down(PadId(pad))?;
-            format!("DOWN {} {}", down.count, u8::from(down.axis))
-        }
+        Operation::IsOld(pad) => format!("IS {}", u8::from(hub.is_old(PadId(pad))?)),
+        Operation::Down(pad) => down_line(hub.down(PadId(pad))?),
         Operation::LowestPressed(pad) => {
             or_absent("CODE", hub.lowest_pressed(PadId(pad))?.map(|code| code.to_string()))
         }
@@ -89,6 +88,10 @@ fn answers(hub: &mut Hub, operation: &Operation<'_>) -> Result<Vec<String>, Refu
         Operation::Deadzone { x, y, threshold } => calculated(x, y, threshold),
     };
     Ok(vec![line])
+}
+
+fn down_line(down: Down) -> String {
+    format!("DOWN {} {}", down.count, u8::from(down.axis))
 }
 
 fn counter_line(hub: &Hub) -> String {

@@ -7,6 +7,7 @@ mod bytes;
 mod down;
 mod feeding;
 mod forms;
+mod old;
 #[path = "../../examples/play/player.rs"]
 mod player;
 #[path = "../../../oracle/reading/scenario.rs"]

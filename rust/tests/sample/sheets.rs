@@ -4,7 +4,7 @@ use crate::scenario::{self, Operation};
 use crate::stored;
 use copperyarn::{Code, Hub, Name, Settings, Sheet, SheetBuilder};
 
-/// A sheet that the hub takes, built again from its fields, the elements in another order.
+/// A sheet that one of the hub's calls takes, built again from its fields, the elements in another order.
 fn rebuilt(bytes: &[u8]) -> Sheet {
     let with_hats = Sheet::builder().hats(bytes[3]);
     bytes[5..].chunks_exact(18).rev().fold(with_hats, with_element).build()
@@ -25,9 +25,9 @@ fn the_builder_writes_the_sheets_of_the_sample() {
     let mut taken = 0;
     for file in ["scenarios.bin", "example.bin", "worked.bin"] {
         for operation in scenario::read(&stored(file)).expect("a scenario file") {
-            let Operation::Register(bytes) = operation else { continue };
+            let (Operation::Register(bytes) | Operation::RegisterArchived(bytes)) = operation else { continue };
             let sheet = Sheet::from_bytes(bytes);
-            if Hub::new(Settings::default()).expect("a hub").register(&sheet).is_ok() {
+            if Hub::new(Settings::default()).expect("a hub").register_archived(&sheet).is_ok() {
                 assert_eq!(rebuilt(bytes), sheet);
                 taken += 1;
             }

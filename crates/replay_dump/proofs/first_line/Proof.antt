@@ -21,8 +21,8 @@ bit-requires c κs = tt
 number-requires : tie.Need-number-requires
 number-requires c κs = tt
 
-hats-requires : tie.Need-hats-requires
-hats-requires c κs = tt
+hats-now-requires : tie.Need-hats-now-requires
+hats-now-requires c κs = tt
 
 cast-number : tie.Need-cast-number
 cast-number c = search needs
@@ -39,7 +39,7 @@ returns c s t =
     let hats = c .before .before in
     let connected = hats .before .before .before .before .before in
     let label = connected .before .before .before .before .before .before .before .before in
-    rw (← connected .before .before .before .pad-bool .ensures, ← connected .before .before .bit .ensures, ← hats .before .hats .ensures s t)
+    rw (← connected .before .before .before .pad-bool .ensures, ← connected .before .before .bit .ensures, ← hats .before .hats-now .ensures s t)
     (then _ _ (then _ _ (lays (label .labelled .ensures)) (connected .number .ensures)) (hats .number2 .ensures))
 
 pub first-line-spec : {M : Type 1} → statement M
@@ -51,7 +51,7 @@ first-line-spec =
     pad-bool-requires
     bit-requires
     number-requires
-    hats-requires
+    hats-now-requires
     cast-number
     number-requires-2
     same-length

@@ -13,7 +13,7 @@ is-pressed-requires c κs = search needs
 returns : tie.Need-returns
 unfolding byName
 returns c kinds queuebytes queuecodes =
-    rw (eq-eqb _ _ (c .before .if1 .taken)) (ap asked.Pressed (c .is-pressed .ensures kinds queuebytes queuecodes _))
+    rw (eq-eqb _ _ (c .before .if1 .taken)) (ap asked.Truth (c .is-pressed .ensures kinds queuebytes queuecodes _))
 
 value-requires : tie.Need-value-requires
 value-requires c κs = search needs

@@ -13,7 +13,7 @@ is-pressed-by-code-requires c κs = search needs
 returns : tie.Need-returns
 unfolding stateByCode
 returns c kinds names renames queuebytes queuecodes =
-    rw (eq-eqb _ _ (c .before .if1 .taken)) (ap asked.Pressed (c .is-pressed-by-code .ensures kinds names renames queuebytes queuecodes _))
+    rw (eq-eqb _ _ (c .before .if1 .taken)) (ap asked.Truth (c .is-pressed-by-code .ensures kinds names renames queuebytes queuecodes _))
 
 value-by-code-requires : tie.Need-value-by-code-requires
 value-by-code-requires c κs = search needs

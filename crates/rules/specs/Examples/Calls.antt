@@ -16,7 +16,7 @@ use Rattle.rules.specs.Names.{codeUp, codeRight, dpadRight}
 use Rattle.rules.specs.Sheets.{sheetBytes}
 use Rattle.rules.specs.Hub.{placeIn, hasButtonAt, hasAxisAt, axisAt}
 use Rattle.rules.specs.Places.{placeOf}
-use Rattle.rules.specs.Calls.{newOf, registerOf, renameOf, updateOf, insertOf, incOf, resetOf}
+use Rattle.rules.specs.Calls.{newOf, registerAs, registerOf, registerArchivedOf, renameOf, updateOf, insertOf, incOf, resetOf}
 use Rattle.rules.specs.Examples.Table.{_is_, Right, button, event, half32, threeQuarters32}
 use Rattle.rules.specs.Examples.Desk.{bare, desk, south, stickX, hatX, raw, press, disconnect, pump, after, tells, told, eventsBytes, given}
 
@@ -51,7 +51,7 @@ kept-marks :
 unfolding newOf Ieee.ofBits Ieee.lt Ieee.le
 kept-marks = refl
 
--- ---- register: "Pads 0..3, registered in that order"; 2: "four pads stand", before 3
+-- ---- register and register_archived: "Pads 0..3, registered in that order"; 2: "four pads stand", before 3
 
 -- n pads of no elements
 blank : ℕ → Hub
@@ -68,17 +68,48 @@ registers :
     ∷ registerOf (blank 0) (sheetBytes 16 []) .answer is registerAnswer.Refused 4
     ∷ registerOf (blank 0) (sheetBytes 0 (button 1 7 ∷ button 2 7 ∷ [])) .answer is registerAnswer.Refused 5
     ∷ [])
-unfolding blank bare registerOf sheetBytes
+unfolding blank bare registerAs sheetBytes
 registers = refl
 
+-- W-212: the archived call takes what `register` refuses by 29, pads of both are numbered together, and partial hats do not convert
+archives :
+    Right (
+    registerOf (blank 1) (sheetBytes 7 []) .answer is registerAnswer.Refused 29
+    ∷ registerArchivedOf (blank 1) (sheetBytes 7 []) .answer is registerAnswer.Pad 1
+    ∷ registerArchivedOf (blank 1) (sheetBytes 15 []) .answer is registerAnswer.Pad 1
+    ∷ registerOf (registerArchivedOf (blank 1) (sheetBytes 7 []) .hub) (sheetBytes 0 []) .answer is registerAnswer.Pad 2
+    ∷ registerArchivedOf (blank 4) (sheetBytes 7 []) .answer is registerAnswer.Refused 2
+    ∷ registerOf (blank 4) (sheetBytes 7 []) .answer is registerAnswer.Refused 2
+    ∷ [])
+unfolding blank bare registerAs sheetBytes
+archives = refl
+
+kept-hats :
+    Right (registerArchivedOf (blank 1) (sheetBytes 7 []) .hub .hats is (0 ∷ 7 ∷ 0 ∷ 0 ∷ []) ∷ registerArchivedOf (blank 1) (sheetBytes 15 []) .hub .hats is (0 ∷ 15 ∷ 0 ∷ 0 ∷ []) ∷ [])
+unfolding blank bare registerAs sheetBytes
+kept-hats = refl
+
+whole-converts : registerArchivedOf (blank 1) (sheetBytes 7 []) .hub .converts ≡ true ∷ false ∷ false ∷ false ∷ []
+unfolding blank bare registerAs sheetBytes
+whole-converts = refl
+
+-- what the plain call takes, the archived one takes as it does
+archived-alike : registerArchivedOf (blank 1) (sheetBytes 15 []) .hub ≡ registerOf (blank 1) (sheetBytes 15 []) .hub
+unfolding blank bare registerAs sheetBytes
+archived-alike = refl
+
 -- "A refusal leaves the hub .. untouched"
+partial-refused : registerOf (blank 1) (sheetBytes 7 []) .hub ≡ blank 1
+unfolding blank bare registerAs sheetBytes
+partial-refused = refl
+
 register-refused : registerOf (blank 1) (sheetBytes 16 []) .hub ≡ blank 1
-unfolding blank bare registerOf sheetBytes
+unfolding blank bare registerAs sheetBytes
 register-refused = refl
 
 -- a pad stands connected from its registration, and the next ones do not
 stands : Right (blank 2 .connected is (true ∷ true ∷ false ∷ false ∷ []) ∷ blank 2 .converts is (true ∷ true ∷ false ∷ false ∷ []) ∷ [])
-unfolding blank bare registerOf sheetBytes
+unfolding blank bare registerAs sheetBytes
 stands = refl
 
 -- whether a pad converts is told by its own places: pad 1 has a button named DPadRight, and pad 0 has none; and the other way round
@@ -91,7 +122,7 @@ converts :
     ∷ registerOf (registerOf (blank 0) own-right .hub) (sheetBytes 0 []) .hub .converts is (false ∷ true ∷ false ∷ false ∷ [])
     ∷ renameOf (registerOf (blank 1) own-right .hub) 1 (255 ∷ []) .hub .newconverts is (false ∷ true ∷ false ∷ false ∷ [])
     ∷ [])
-unfolding own-right blank bare registerOf renameOf sheetBytes
+unfolding own-right blank bare registerAs renameOf sheetBytes
 converts = refl
 
 -- a further pad leaves the state of those before it
@@ -103,7 +134,7 @@ keeps-state :
     hasButtonAt (registerOf pressed-before (sheetBytes 0 []) .hub) (placeIn pressed-before 0 south) is true
     ∷ hasAxisAt (registerOf pressed-before (sheetBytes 0 []) .hub) (placeIn pressed-before 0 stickX) is true
     ∷ [])
-unfolding pressed-before given desk registerOf sheetBytes placeOf
+unfolding pressed-before given desk registerAs sheetBytes placeOf
 keeps-state = refl
 
 -- ---- rename: "Rename: 6, 7, 3, 4, 5"
@@ -125,7 +156,7 @@ unfolding list desk after raw renameOf
 renames = refl
 
 rename-refused : renameOf (blank 1) 0 (0 ∷ []) .hub ≡ blank 1
-unfolding blank bare registerOf sheetBytes renameOf
+unfolding blank bare registerAs sheetBytes renameOf
 rename-refused = refl
 
 -- the i-th name goes to the i-th element, past the unlisted directions between them; the sheet's own names stay beside
@@ -177,7 +208,7 @@ unchanged :
     ∷ updateOf (blank 1) (one (event 5 Disconnected)) .hub is blank 1
     ∷ updateOf (blank 1) (one (event 5 (Pressed 1 0))) .hub is blank 1
     ∷ [])
-unfolding one blank bare registerOf sheetBytes eventsBytes updateOf
+unfolding one blank bare registerAs sheetBytes eventsBytes updateOf
 unchanged = refl
 
 -- an axis event on a button's code makes an axis record there, beside the button record; also with updates off
@@ -209,7 +240,7 @@ unfolding inserting half-pumped one pump desk raw eventsBytes insertOf
 inserts = refl
 
 insert-refused : insertOf (blank 1) (one (event 5 (Pressed 1 0))) .hub ≡ blank 1
-unfolding one blank bare registerOf sheetBytes eventsBytes insertOf
+unfolding one blank bare registerAs sheetBytes eventsBytes insertOf
 insert-refused = refl
 
 -- an inserted hat event is converted as a record's is

@@ -13,7 +13,7 @@ use Rattle.rules.specs.Forms.{recordBytes}
 use Rattle.rules.specs.Sheets.{sheetBytes}
 use Rattle.rules.specs.Events.{eventBytes}
 use Rattle.rules.specs.Pump.{Run, pumpOf}
-use Rattle.rules.specs.Calls.{newOf, registerOf, updateOf}
+use Rattle.rules.specs.Calls.{newOf, registerAs, registerOf, updateOf}
 use Rattle.rules.specs.Examples.Table.{button, axis, half32, threeQuarters32}
 
 -- ---- the pad
@@ -57,12 +57,12 @@ unfolding newOf Ieee.ofBits Ieee.lt Ieee.le
 bare filters updates = newOf threeQuarters32 half32 false filters updates .hub
 
 unfoldable pub desk : Bool → Bool → Hub
-unfolding bare sheet registerOf Ieee.ofInt Ieee.sub Ieee.mul Ieee.div
+unfolding bare sheet registerAs Ieee.ofInt Ieee.sub Ieee.mul Ieee.div
 desk filters updates = registerOf (bare filters updates) sheet .hub
 
 -- two pads of that sheet
 unfoldable pub twoPads : Hub
-unfolding desk sheet registerOf
+unfolding desk sheet registerAs
 twoPads = registerOf (desk true true) sheet .hub
 
 -- ---- records of pad 0

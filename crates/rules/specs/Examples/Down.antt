@@ -13,7 +13,7 @@ use Rattle.rules.specs.declared.NumberAnswer.the-variants as numberAnswe
 use Rattle.rules.specs.declared.DownAnswer.the-variants.{Down, Refused}
 use Rattle.rules.specs.Names.{codeLeft, dpadLeft}
 use Rattle.rules.specs.Down.{hasBit, putBit, lowestOf, countAfter, bitsAfter, countsAfter}
-use Rattle.rules.specs.Calls.{registerOf, renameOf}
+use Rattle.rules.specs.Calls.{registerAs, registerOf, renameOf}
 use Rattle.rules.specs.Queries.{downOf, lowestPressed}
 use Rattle.rules.specs.Examples.Table.{_is_, Right, event, threeQuarters32}
 use Rattle.rules.specs.Examples.Desk.{desk, twoPads, sheet, south, plain, trigger, hatX, raw, press, move, connect, disconnect, pump, after, given}
@@ -146,7 +146,7 @@ kept :
     ∷ downOf (registerOf held sheet .hub) 0 is Down 2 true
     ∷ downOf (registerOf held sheet .hub) 1 is Down 0 false
     ∷ [])
-unfolding held given after desk sheet raw registerOf renameOf downOf
+unfolding held given after desk sheet raw registerAs renameOf downOf
 kept = refl
 
 both : Hub

@@ -1,4 +1,4 @@
--- Sheets and rename lists: a good sheet byte by byte, every rule of an element at its limit and one past it, and the order 3, 4, 5.
+-- Sheets and rename lists: a good sheet byte by byte, every rule of an element at its limit and one past it, partial hats, and the order 3, 4, 29, 5.
 use Prim.Native.Nat.{ℕ, zero, suc, _+_}
 use mathlib.Core.Path.{_≡_, refl}
 use mathlib.Core.Bool.{true, false}
@@ -6,7 +6,7 @@ use mathlib.Core.List.{List, [], _∷_, _++_}
 use lib.ListN.{set, take}
 use lib.IntN.{ℤ, pos, negsuc}
 use Rattle.rules.specs.declared.SheetElement.{SheetElement}
-use Rattle.rules.specs.Sheets.{sheetFits, sheetRefusal, hatsOf, countOf, elementOf, sheetBytes, renameListRefusal}
+use Rattle.rules.specs.Sheets.{sheetFits, partialOf, sheetRefusal, hatsOf, countOf, elementOf, sheetBytes, renameListRefusal}
 use Rattle.rules.specs.Examples.Table.{_is_, Right, button, axis}
 
 -- ---- the bytes: "count, version, hats 0..15, n, then n elements: code 4, kind 1, name 1, min 4, max 4, deadzone 4"
@@ -19,7 +19,7 @@ sheet-written : sheetBytes 15 (axis 0x00030010 39 (negsuc 0) (pos 1) 0xffffffff 
 unfolding sheetBytes hatBytes
 sheet-written = refl
 
-sheet-reads : Right (sheetRefusal hatBytes is 0 ∷ hatsOf hatBytes is 15 ∷ countOf hatBytes is 1 ∷ [])
+sheet-reads : Right (sheetRefusal false hatBytes is 0 ∷ hatsOf hatBytes is 15 ∷ countOf hatBytes is 1 ∷ [])
 unfolding sheetRefusal hatsOf countOf hatBytes
 sheet-reads = refl
 
@@ -27,7 +27,7 @@ element-reads : elementOf hatBytes 0 ≡ axis 0x00030010 39 (negsuc 0) (pos 1) 0
 unfolding elementOf hatBytes
 element-reads = refl
 
-sheet-refused : sheetRefusal (set hatBytes 3 16) ≡ 4
+sheet-refused : sheetRefusal false (set hatBytes 3 16) ≡ 4
 unfolding sheetRefusal hatBytes
 sheet-refused = refl
 
@@ -40,20 +40,20 @@ many (suc n) code = button code 255 ∷ many n (code + 1)
 
 sizes :
     Right (
-    sheetRefusal hatBytes is 0
-    ∷ sheetRefusal (sheetBytes 0 []) is 0
-    ∷ sheetRefusal (sheetBytes 0 (many 49 0)) is 3
-    ∷ sheetRefusal [] is 3
-    ∷ sheetRefusal (0 ∷ []) is 3
-    ∷ sheetRefusal (take 22 hatBytes) is 3
-    ∷ sheetRefusal (hatBytes ++ (0 ∷ [])) is 3
-    ∷ sheetRefusal (set hatBytes 0 1) is 3
-    ∷ sheetRefusal (set hatBytes 1 20) is 3
-    ∷ sheetRefusal (set hatBytes 1 22) is 3
-    ∷ sheetRefusal (set hatBytes 2 0) is 3
-    ∷ sheetRefusal (set hatBytes 2 2) is 3
-    ∷ sheetRefusal (set hatBytes 4 0) is 3
-    ∷ sheetRefusal (set hatBytes 4 2) is 3
+    sheetRefusal false hatBytes is 0
+    ∷ sheetRefusal false (sheetBytes 0 []) is 0
+    ∷ sheetRefusal false (sheetBytes 0 (many 49 0)) is 3
+    ∷ sheetRefusal false [] is 3
+    ∷ sheetRefusal false (0 ∷ []) is 3
+    ∷ sheetRefusal false (take 22 hatBytes) is 3
+    ∷ sheetRefusal false (hatBytes ++ (0 ∷ [])) is 3
+    ∷ sheetRefusal false (set hatBytes 0 1) is 3
+    ∷ sheetRefusal false (set hatBytes 1 20) is 3
+    ∷ sheetRefusal false (set hatBytes 1 22) is 3
+    ∷ sheetRefusal false (set hatBytes 2 0) is 3
+    ∷ sheetRefusal false (set hatBytes 2 2) is 3
+    ∷ sheetRefusal false (set hatBytes 4 0) is 3
+    ∷ sheetRefusal false (set hatBytes 4 2) is 3
     ∷ [])
 unfolding sheetRefusal sheetBytes hatBytes many
 sizes = refl
@@ -65,11 +65,11 @@ most = refl
 
 -- ---- 4: "hats over 15 or an element breaks a rule"
 
--- what a sheet is refused by, from its hats and elements
+-- what a new sheet is refused by, from its hats and elements
 judged : ℕ → List SheetElement → ℕ
-judged hats es = sheetRefusal (sheetBytes hats es)
+judged hats es = sheetRefusal false (sheetBytes hats es)
 
-hats : Right (judged 0 [] is 0 ∷ judged 7 [] is 0 ∷ judged 15 [] is 0 ∷ judged 16 [] is 4 ∷ judged 255 [] is 4 ∷ [])
+hats : Right (judged 0 [] is 0 ∷ judged 15 [] is 0 ∷ judged 16 [] is 4 ∷ judged 255 [] is 4 ∷ [])
 unfolding judged sheetRefusal sheetBytes
 hats = refl
 
@@ -161,12 +161,57 @@ twice :
 unfolding judged sheetRefusal sheetBytes
 twice = refl
 
+-- ---- W-212: "New sheets .. must have hats 0 or 15 in the low four bits"; an archived sheet may have any
+
+partial :
+    Right (
+    partialOf 0 is false
+    ∷ partialOf 1 is true
+    ∷ partialOf 8 is true
+    ∷ partialOf 14 is true
+    ∷ partialOf 15 is false
+    ∷ partialOf 16 is false
+    ∷ partialOf 129 is true
+    ∷ partialOf 143 is false
+    ∷ [])
+unfolding partialOf
+partial = refl
+
+-- what an archived sheet is refused by
+archived : ℕ → List SheetElement → ℕ
+archived hats es = sheetRefusal true (sheetBytes hats es)
+
+partial-hats :
+    Right (
+    judged 1 [] is 29
+    ∷ judged 14 [] is 29
+    ∷ archived 1 [] is 0
+    ∷ archived 14 [] is 0
+    ∷ archived 0 [] is 0
+    ∷ archived 15 [] is 0
+    ∷ archived 16 [] is 4
+    ∷ [])
+unfolding judged archived sheetRefusal sheetBytes
+partial-hats = refl
+
+-- "29 partial hats, after 4 and before 5"
+partial-order :
+    Right (
+    sheetRefusal false (set (sheetBytes 1 []) 2 2) is 3
+    ∷ judged 17 [] is 4
+    ∷ judged 1 (button 1 0 ∷ []) is 4
+    ∷ judged 1 (button 1 7 ∷ button 2 7 ∷ []) is 29
+    ∷ archived 1 (button 1 7 ∷ button 2 7 ∷ []) is 5
+    ∷ [])
+unfolding judged archived sheetRefusal sheetBytes
+partial-order = refl
+
 -- ---- "Sheet order: 2, 3, 4, 5": 3 before hats, hats before a name twice, and an element that breaks a rule behind a name twice is still 4
 
 order :
     Right (
-    sheetRefusal (set (sheetBytes 16 []) 2 2) is 3
-    ∷ sheetRefusal (sheetBytes 0 (many 48 0 ++ (button 0 0 ∷ []))) is 3
+    sheetRefusal false (set (sheetBytes 16 []) 2 2) is 3
+    ∷ sheetRefusal false (sheetBytes 0 (many 48 0 ++ (button 0 0 ∷ []))) is 3
     ∷ judged 16 (button 1 7 ∷ button 2 7 ∷ []) is 4
     ∷ judged 0 (button 1 7 ∷ button 2 7 ∷ button 3 0 ∷ []) is 4
     ∷ judged 0 (button 1 7 ∷ button 1 7 ∷ []) is 4

@@ -16,7 +16,7 @@ use Rattle.rules.specs.declared.ButtonAnswer.the-variants as buttonAnswe
 use Rattle.rules.specs.declared.AxisAnswer.the-variants as axisAnswer
 use Rattle.rules.specs.Names.{codeUp, codeRight, dpadRight, dpadX}
 use Rattle.rules.specs.Sheets.{sheetBytes}
-use Rattle.rules.specs.Calls.{registerOf, insertOf, incOf, renameOf}
+use Rattle.rules.specs.Calls.{registerAs, registerOf, insertOf, incOf, renameOf}
 use Rattle.rules.specs.Hub.{convertsIn, convertsNow, hatsNow, hasButtonAt, hasAxisAt}
 use Rattle.rules.specs.Step.{headAfter}
 use Rattle.rules.specs.Queries.{pressedByCode, connectedOf, buttonByCode, axisByCode, nameByCode}
@@ -80,7 +80,7 @@ cleared-once = refl
 hat-button :
     tells (registerOf (bare true true) (sheetBytes 0 (button south 39 ∷ [])) .hub) (press south 5) 2
     ≡ told (Drained 21 2 2) (event 5 (Pressed dpadRight codeRight) ∷ event 5 (Changed dpadRight codeRight one32) ∷ [])
-unfolding bare registerOf sheetBytes tells told raw
+unfolding bare registerAs sheetBytes tells told raw
 hat-button = refl
 
 -- a record keeps the counter of its event's step, and its time
@@ -197,7 +197,7 @@ full-cleared :
     ∷ hasButtonAt (after full-given (connect 6)) 51 is false
     ∷ hasAxisAt (after full-given (connect 6)) 51 is false
     ∷ [])
-unfolding full-given full-pad rising last-button first-button given after bare registerOf sheetBytes raw
+unfolding full-given full-pad rising last-button first-button given after bare registerAs sheetBytes raw
 full-cleared = refl
 
 -- and the last of its six deadzone flags, RightStickY's
@@ -205,7 +205,7 @@ right-stick : Hub
 right-stick = after (registerOf (bare true true) (sheetBytes 0 (axis stickY 37 (negsuc 3) (pos 4) 2 ∷ [])) .hub) (move stickY (pos 4) 6)
 
 last-flag : Right (getD (right-stick .flags) 5 false is true ∷ getD (after right-stick (connect 7) .flags) 5 true is false ∷ [])
-unfolding right-stick after bare registerOf sheetBytes raw
+unfolding right-stick after bare registerAs sheetBytes raw
 last-flag = refl
 
 -- ---- "and the names and hats of the registered sheet (gilrs loads the mapping afresh, so a rename is lost)"
@@ -219,11 +219,11 @@ renamed = renameOf hatted 0 (19 ∷ 40 ∷ []) .hub
 
 converts :
     Right (convertsNow hatted 0 is true ∷ convertsNow renamed 0 is false ∷ convertsNow (after renamed (connect 7)) 0 is true ∷ [])
-unfolding hatted renamed bare registerOf sheetBytes renameOf after raw convertsIn
+unfolding hatted renamed bare registerAs sheetBytes renameOf after raw convertsIn
 converts = refl
 
 hats : Right (hatsNow hatted 0 is 15 ∷ hatsNow renamed 0 is 0 ∷ hatsNow (after renamed (connect 7)) 0 is 15 ∷ [])
-unfolding hatted renamed bare registerOf sheetBytes renameOf after raw hatsNow
+unfolding hatted renamed bare registerAs sheetBytes renameOf after raw hatsNow
 hats = refl
 
 names :
@@ -232,5 +232,5 @@ names :
     ∷ nameByCode (after renamed (disconnect 7)) 0 hatX is numberAnswer.Number 40
     ∷ nameByCode (after renamed (connect 7)) 0 hatX is numberAnswer.Number 39
     ∷ [])
-unfolding hatted renamed bare registerOf sheetBytes renameOf after raw nameByCode
+unfolding hatted renamed bare registerAs sheetBytes renameOf after raw nameByCode
 names = refl

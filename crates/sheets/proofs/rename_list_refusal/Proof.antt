@@ -40,7 +40,7 @@ returns-2 c =
       c .before .unless-fits2 .ensures,
       c .before .before .occurs-twice .ensures,
     )
-    (in-order false (namesFit s count 0) (occursTwice s 0 1 count 0))
+    (in-order false (namesFit s count 0) false (occursTwice s 0 1 count 0))
 
 pub rename-list-refusal-spec : {M : Type 1} → statement M
 rename-list-refusal-spec =

@@ -24,7 +24,7 @@ use Rattle.theory_history.specs.Lemmas.Serve.{Tells}
 use Rattle.theory_history.specs.Lemmas.Register.{next, same-queue, same-hits, still-fits, more-pads, old-place, old-zoned, old-cell, old-hasaxis, new-hasbutton, new-hasaxis, new-apart}
 
 module _ (P : Float → Type 0) (alike : (a b : Float) → P a → P b → eq a b ≡ true → a ≡ b) (zero-fits : P zero32) (h : Hub) (s : List ℕ) (desk : Desk h)
-    (ok : registerRefusal (h .pads) s ≡ 0) where
+    (ok : registerRefusal true (h .pads) s ≡ 0) where
   abbrev then : Hub
   then = next h s desk ok
 

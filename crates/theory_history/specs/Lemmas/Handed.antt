@@ -41,8 +41,8 @@ use Rattle.rules.specs.declared.EventRead.the-variants as eventRead
 use Rattle.rules.specs.Forms.{readEvent}
 use Rattle.rules.specs.declared.EventType.the-variants.{Axis}
 use Rattle.rules.specs.State.{nextCounter}
-use Rattle.rules.specs.Calls.{freshHub, newBy, newOf, registerRefusal, registeredAt, registerBy, registerOf, formPlace, updateFormBy, updateBy, updateOf, countedAt, incOf, resetOf}
-use Rattle.theory_registered.specs.Columns.{accepted}
+use Rattle.rules.specs.Calls.{freshHub, newBy, newOf, registerRefusal, registeredAt, registerBy, registerAs, formPlace, updateFormBy, updateBy, updateOf, countedAt, incOf, resetOf}
+use Rattle.theory_registered.specs.Columns.{accepted, either-taken}
 use Rattle.theory_history.specs.Lemmas.Marks.{cleared-before, cleared-behind}
 use Rattle.theory_history.specs.Lemmas.Flags.{and-parts, upAt}
 
@@ -151,15 +151,15 @@ grown-tail s flags few q b fits (lone {pad} {time} {m} {c} {z}) =
     unfold upAt in rw (flag-same flags (s .pads) pad m old few, flag-same flags (s .pads) pad (partnerOf m) old few) in
     subst (λ (n : ℕ). Tail after (ev pad time (Axis m c z) ∷ []) (suc n)) same lone
 
-register-tail : (number : ℕ) (h : Hub) (sheet : List ℕ) (b : ℕ) → registerRefusal (h .pads) sheet ≡ number → All (Fit (sheetOf h)) (waitingList h)
+register-tail : (number : ℕ) (h : Hub) (archived : Bool) (sheet : List ℕ) (b : ℕ) → registerRefusal archived (h .pads) sheet ≡ number → All (Fit (sheetOf h)) (waitingList h)
     → Still h b → Still (registerBy number h sheet .hub) b
 unfolding registeredAt waitingList
-register-tail zero h sheet b ok fits t = grown-tail (sheetOf h) (h .flags) (accepted (h .pads) sheet ok .0) (waitingList h) b fits t
-register-tail (suc number) h sheet b ok fits t = t
+register-tail zero h archived sheet b ok fits t = grown-tail (sheetOf h) (h .flags) (accepted (h .pads) sheet (either-taken archived (h .pads) sheet ok) .0) (waitingList h) b fits t
+register-tail (suc number) h archived sheet b ok fits t = t
 
-pub register-still : {h : Hub} {rs : List RawRecord} → Played h rs → (sheet : List ℕ) (b : ℕ) → Still h b → Still (registerOf h sheet .hub) b
-unfolding registerOf
-register-still {h} w sheet b t = register-tail (registerRefusal (h .pads) sheet) h sheet b refl (tidy w) t
+pub register-still : {h : Hub} {rs : List RawRecord} → Played h rs → (archived : Bool) (sheet : List ℕ) (b : ℕ) → Still h b → Still (registerAs archived h sheet .hub) b
+unfolding registerAs
+register-still {h} w archived sheet b t = register-tail (registerRefusal archived (h .pads) sheet) h archived sheet b refl (tidy w) t
 
 pub inc-still : (h : Hub) (b : ℕ) → Still h b → Still (incOf h) b
 unfolding incOf
@@ -188,9 +188,9 @@ unfolding newOf
 still (fresh pressed released reversed ok) =
     let h = freshHub pressed released reversed true true in
     record { bound = 0; tail = new-still (thresholdsRefusal pressed released) h ok (unfold freshHub in refl); few = omega arith }
-still (register sheet w) =
+still (register archived sheet w) =
     let s = still w in
-    record { bound = s .bound; tail = register-still w sheet (s .bound) (s .tail); few = s .few }
+    record { bound = s .bound; tail = register-still w archived sheet (s .bound) (s .tail); few = s .few }
 still (take r none ok w) = take-few w r none
 still (serve some w) =
     let s = still w in

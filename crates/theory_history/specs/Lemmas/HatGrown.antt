@@ -1,6 +1,6 @@
 -- The directions of hats after a registration: those of a pad before it show what they showed, and those of the new pad nothing.
 use Prim.Native.Nat.{ℕ, _/_, _<_}
-use mathlib.Core.Bool.{Bool, false, cond}
+use mathlib.Core.Bool.{Bool, true, false, cond}
 use mathlib.Core.List.{List, []}
 use mathlib.Core.Path.{_≡_, refl, sym, _∙_, ap, subst, subst₂}
 use lib.Dec.{eqb}
@@ -26,7 +26,7 @@ use Rattle.theory_history.specs.Lemmas.Written.{writes, Never, writes-mo
 use Rattle.theory_history.specs.Lemmas.Sides.{Shows, Side, Opposed, side-by, opposed-by}
 use Rattle.theory_history.specs.Lemmas.Hats.{Unlisted, Sheeted}
 
-module _ (h : Hub) (s : List ℕ) (desk : Desk h) (ok : registerRefusal (h .pads) s ≡ 0) (p : ℕ) where
+module _ (h : Hub) (s : List ℕ) (desk : Desk h) (ok : registerRefusal true (h .pads) s ≡ 0) (p : ℕ) where
   abbrev then : Hub
   then = next h s desk ok
 

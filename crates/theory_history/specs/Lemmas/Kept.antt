@@ -18,7 +18,8 @@ use Rattle.rules.specs.Events.{formEvent}
 use Rattle.rules.specs.State.{nextCounter}
 use Rattle.rules.specs.Hub.{pressedAt}
 use Rattle.rules.specs.Step.{updatedOf, stepHub}
-use Rattle.rules.specs.Calls.{freshHub, newBy, newOf, registerRefusal, registeredAt, registerBy, registerOf, updateFormBy, countedAt, incOf, resetOf}
+use Rattle.rules.specs.Calls.{freshHub, newBy, newOf, registerRefusal, registeredAt, registerBy, registerAs, updateFormBy, countedAt, incOf, resetOf}
+use Rattle.theory_registered.specs.Columns.{either-taken}
 use Rattle.theory_registered.specs.Pads.{reached-desk}
 use Rattle.theory_history.specs.Lemmas.Turns.{ev}
 use Rattle.theory_history.specs.Lemmas.Steps.{look, lookAt}
@@ -48,11 +49,11 @@ module _ (p : ℕ) (On : Hub → Type 0) (Holds : Hub → List RawRecord → Typ
     -- only its registration makes a pad what is asked
     pub pad : (h : Hub) → On h → p < h .pads
     pub back : (h g : Hub) → Same h g → On g → On h
-    pub before : (h : Hub) (rs : List RawRecord) → Played h rs → (s : List ℕ) → registerRefusal (h .pads) s ≡ 0 → p < h .pads → On (grown h s) → On h
+    pub before : (h : Hub) (rs : List RawRecord) → Played h rs → (s : List ℕ) → registerRefusal true (h .pads) s ≡ 0 → p < h .pads → On (grown h s) → On h
     -- each call
-    pub newer : (h : Hub) (rs : List RawRecord) → Played h rs → (s : List ℕ) → registerRefusal (h .pads) s ≡ 0 → p ≡ h .pads → On (grown h s)
+    pub newer : (h : Hub) (rs : List RawRecord) → Played h rs → (s : List ℕ) → registerRefusal true (h .pads) s ≡ 0 → p ≡ h .pads → On (grown h s)
         → Holds (grown h s) rs
-    pub older : (h : Hub) (rs : List RawRecord) → Played h rs → (s : List ℕ) → registerRefusal (h .pads) s ≡ 0 → p < h .pads → On h → Holds h rs
+    pub older : (h : Hub) (rs : List RawRecord) → Played h rs → (s : List ℕ) → registerRefusal true (h .pads) s ≡ 0 → p < h .pads → On h → Holds h rs
         → Holds (grown h s) rs
     pub takes : (h : Hub) (rs : List RawRecord) → Played h rs → (r : RawRecord) → h .waiting ≡ 0 → Good h r → On h → Holds h rs
         → Holds (stepHub h (lookAt r)) (r ∷ rs)
@@ -62,10 +63,13 @@ module _ (p : ℕ) (On : Hub → Type 0) (Holds : Hub → List RawRecord → Typ
         → Holds (updatedOf true h (ev pad time (Repeated n c))) rs
 
   module _ (keeps : Keeps) where
-    register-by : (number : ℕ) (h : Hub) (rs : List RawRecord) → Played h rs → (s : List ℕ) → registerRefusal (h .pads) s ≡ number → (On h → Holds h rs)
-        → On (registerBy number h s .hub) → Holds (registerBy number h s .hub) rs
-    register-by zero h rs w s ok held on = by (ltb p (h .pads)) refl
+    register-by : (number : ℕ) (h : Hub) (rs : List RawRecord) → Played h rs → (archived : Bool) (s : List ℕ) → registerRefusal archived (h .pads) s ≡ number
+        → (On h → Holds h rs) → On (registerBy number h s .hub) → Holds (registerBy number h s .hub) rs
+    register-by zero h rs w archived s taken held on = by (ltb p (h .pads)) refl
       where
+        ok : registerRefusal true (h .pads) s ≡ 0
+        ok = either-taken archived (h .pads) s taken
+
         by : (old : Bool) → ltb p (h .pads) ≡ old → Holds (grown h s) rs
         by true l =
             let old = ltb-true p (h .pads) l in
@@ -75,7 +79,7 @@ module _ (p : ℕ) (On : Hub → Type 0) (Holds : Hub → List RawRecord → Typ
             let past = ltb-false p (h .pads) l in
             let inside = keeps .pad (grown h s) on in
             keeps .newer h rs w s ok (omega (arith, pads-are h s (reached-desk (reached w)) ok)) on
-    register-by (suc number) h rs w s ok held on = held on
+    register-by (suc number) h rs w archived s taken held on = held on
 
     form-by : (number : ℕ) (h : Hub) (rs : List RawRecord) → Played h rs → (f : EventForm) (n c : ℕ) → formEvent f .event ≡ Repeated n c
         → pressedAt h (placeOf (h .codes) (formEvent f .pad) c) ≡ true → On h → Holds h rs → Holds (updateFormBy number h f .hub) rs
@@ -85,10 +89,10 @@ module _ (p : ℕ) (On : Hub → Type 0) (Holds : Hub → List RawRecord → Typ
     form-by (suc number) h rs w f n c is down on held = held
 
     pub kept : {h : Hub} {rs : List RawRecord} → Played h rs → On h → Holds h rs
-    unfolding newOf registerOf incOf resetOf
+    unfolding newOf registerAs incOf resetOf
     kept (fresh pressed released reversed ok) on =
         absurd (fresh-empty (thresholdsRefusal pressed released) pressed released reversed p ok (keeps .pad _ on))
-    kept (register {h} {rs} sheet w) on = register-by (registerRefusal (h .pads) sheet) h rs w sheet refl (λ before. kept w before) on
+    kept (register {h} {rs} archived sheet w) on = register-by (registerRefusal archived (h .pads) sheet) h rs w archived sheet refl (λ before. kept w before) on
     kept (take {h} {rs} r none ok w) on =
         let before = keeps .back h (stepHub h (lookAt r)) (step-same h (lookAt r)) on in
         keeps .takes h rs w r none (good h r ok) before (kept w before)
@@ -117,10 +121,10 @@ register-more (suc number) h s = omega arith
 module _ {A : Type 0} (p : ℕ) (told : List RawRecord → A)
     (foreign : (r : RawRecord) (rs : List RawRecord) → (r .pad ≡ p → ⊥) → told (r ∷ rs) ≡ told rs) where
   pub unseen : {h : Hub} {rs : List RawRecord} → Played h rs → h .pads ≤ p → told rs ≡ told []
-  unfolding registerOf incOf resetOf countedAt
+  unfolding registerAs incOf resetOf countedAt
   unseen (fresh pressed released reversed ok) past = refl
-  unseen (register {h} sheet w) past =
-      let more = register-more (registerRefusal (h .pads) sheet) h sheet in
+  unseen (register {h} archived sheet w) past =
+      let more = register-more (registerRefusal archived (h .pads) sheet) h sheet in
       unseen w (omega arith)
   unseen (take {h} {rs} r none ok w) past =
       let pads = step-same h (lookAt r) .pads in

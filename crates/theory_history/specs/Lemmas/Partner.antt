@@ -73,7 +73,7 @@ unlisted-name h desk p old c found none =
     sym (w .kept .keeps .kinds (k - placesPerPad * p) j) ∙ (ap (λ (i : ℕ). getD (h .kinds) i 0) at ∙ none) in
     name ∙ by (w .sheet) (w .kept .taken) (rowAt (w .sheet) (k - placesPerPad * p)) kind (row-of (w .sheet) (k - placesPerPad * p))
   where
-    by : (s : List ℕ) → sheetRefusal s ≡ 0 → (row : Row) → row .kind ≡ 0 → (row ≡ unlistedRow (row .code)) ⊎ Of s (countOf s) row → row .name ≡ noName
+    by : (s : List ℕ) → sheetRefusal true s ≡ 0 → (row : Row) → row .kind ≡ 0 → (row ≡ unlistedRow (row .code)) ⊎ Of s (countOf s) row → row .name ≡ noName
     by s taken row kind (inl none) = ap rowName none
     by s taken row kind (inr o) =
         absurd (listed (elementOf s (o .element)) (sort (elementOf s (o .element)) (element-fits s taken (o .element) (o .inside))) (sym (row-kind s (countOf s) row o) ∙ kind))

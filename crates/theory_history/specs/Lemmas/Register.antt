@@ -48,7 +48,7 @@ listed-found h desk k listed = by (ltb k nowhere) refl
         let long = desk .sized .kinds in
         absurd (listed (List·getD-eq-default (h .kinds) 0 {n = k} (omega arith)))
 
-module _ (h : Hub) (s : List ℕ) (desk : Desk h) (ok : registerRefusal (h .pads) s ≡ 0) where
+module _ (h : Hub) (s : List ℕ) (desk : Desk h) (ok : registerRefusal true (h .pads) s ≡ 0) where
   abbrev pub next : Hub
   next = registerBy 0 h s .hub
 

@@ -16,7 +16,7 @@ use Rattle.rules.specs.Sheets.{sheetOpening, elementSize, countOf, elementField
 use Rattle.rules.specs.Places.{listedRow, elementNext, directionNext, nextRow, rowsFrom, rowsOf}
 use Rattle.rules.specs.Refusals.{thresholdsRefusal}
 use Rattle.rules.specs.Pump.{pumpOf}
-use Rattle.rules.specs.Calls.{rowCode, laid, freshHub, idleHub, newBy, newOf, registeredAt, registerRefusal, registerBy, registerOf, updateOf, countedAt}
+use Rattle.rules.specs.Calls.{rowCode, laid, freshHub, idleHub, newBy, newOf, registeredAt, registerRefusal, registerBy, registerAs, updateOf, countedAt}
 use Rattle.theory_calls.specs.Reach.{pump-keeps}
 use Rattle.theory_registered.specs.Pads.{Alike, step-alike, update-alike, counted-alike}
 use Rattle.theory_registered.specs.Rows.{direction-facts}
@@ -104,9 +104,9 @@ register-by-small zero h s bytes small =
     }
 register-by-small (suc number) h s bytes small = small
 
-pub register-small : (h : Hub) (s : List ℕ) → Bytes s → Small h → Small (registerOf h s .hub)
-unfolding registerOf
-register-small h s bytes small = register-by-small (registerRefusal (h .pads) s) h s bytes small
+pub register-small : (archived : Bool) (h : Hub) (s : List ℕ) → Bytes s → Small h → Small (registerAs archived h s .hub)
+unfolding registerAs
+register-small archived h s bytes small = register-by-small (registerRefusal archived (h .pads) s) h s bytes small
 
 -- ---- the calls that leave the codes alone
 

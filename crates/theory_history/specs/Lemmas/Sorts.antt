@@ -119,7 +119,7 @@ update-same h e =
 
 -- ---- registration, for a pad before it
 
-module _ (h : Hub) (s : List ℕ) (desk : Desk h) (ok : registerRefusal (h .pads) s ≡ 0) (p c : ℕ) (old : p < h .pads) where
+module _ (h : Hub) (s : List ℕ) (desk : Desk h) (ok : registerRefusal true (h .pads) s ≡ 0) (p c : ℕ) (old : p < h .pads) where
   abbrev then : Hub
   then = next h s desk ok
 

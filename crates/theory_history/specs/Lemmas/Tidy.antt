@@ -1,6 +1,6 @@
 -- Whatever is played, only events of buttons, and axis events that no conversion takes, wait, all of registered pads.
 use Prim.Native.Nat.{ℕ, zero, suc, _+_, _<_}
-use mathlib.Core.Bool.{true, false}
+use mathlib.Core.Bool.{Bool, true, false}
 use mathlib.Core.List.{List, [], _++_}
 use mathlib.Core.Path.{_≡_, refl, sym, _∙_, ap, subst}
 use lib.Dec.{eqb}
@@ -19,11 +19,12 @@ use Rattle.rules.specs.State.{nextCounter}
 use Rattle.rules.specs.Dispatch.{single, moving, moveOf, dispatchBy, dispatchOf}
 use Rattle.rules.specs.Hub.{elementAt, pressedAt, frontOf, viewOf}
 use Rattle.rules.specs.Step.{blankRecord, markedOf, updatedOf, updatedAt, recordKind, takenOf, stepHub}
-use Rattle.rules.specs.Calls.{freshHub, newBy, newOf, registerRefusal, registerBy, registerOf, updateFormBy, countedAt, incOf, resetOf}
+use Rattle.rules.specs.Calls.{freshHub, newBy, newOf, registerRefusal, registerBy, registerAs, updateFormBy, countedAt, incOf, resetOf}
 use Rattle.theory_calls.specs.Waiting.{waitingList, ringList, restOf, popped, empty-rest}
 use Rattle.theory_calls.specs.Queue.{pushesIn, nothing-lost}
 use Rattle.theory_calls.specs.Reach.{reached-sound}
 use Rattle.pad.specs.Lookup.{place-small}
+use Rattle.theory_registered.specs.Columns.{either-taken}
 use Rattle.theory_registered.specs.Pads.{Desk, reached-desk}
 use Rattle.theory_history.specs.Lemmas.Turns.{moreOf}
 use Rattle.theory_history.specs.Lemmas.Steps.{Ready, look, lookAt, front-taken, record-taken, pushes-of}
@@ -82,16 +83,17 @@ take-tidy h w desk r ok none lost =
     lost ∙ (ap (λ (es : List Event). es ++ pushesIn h (lookAt r)) (empty-rest h none) ∙ pushes-of h (lookAt r) w d taken) in
     subst (All (Fit s)) (sym queue) (apart-fits s (fine .queue))
 
-register-fits : (h : Hub) (s : List ℕ) (desk : Desk h) (ok : registerRefusal (h .pads) s ≡ 0) {es : List Event} → All (Fit (sheetOf h)) es
+register-fits : (h : Hub) (s : List ℕ) (desk : Desk h) (ok : registerRefusal true (h .pads) s ≡ 0) {es : List Event} → All (Fit (sheetOf h)) es
     → All (Fit (sheetOf (next h s desk ok))) es
 register-fits h s desk ok empty = empty
 register-fits h s desk ok (more w rest) = more (still-fits h s desk ok w) (register-fits h s desk ok rest)
 
-register-tidy : (number : ℕ) (h : Hub) (s : List ℕ) (desk : Desk h) → registerRefusal (h .pads) s ≡ number → All (Fit (sheetOf h)) (waitingList h)
-    → All (Fit (sheetOf (registerBy number h s .hub))) (waitingList (registerBy number h s .hub))
-register-tidy zero h s desk e all =
+register-tidy : (number : ℕ) (h : Hub) (s : List ℕ) (desk : Desk h) (archived : Bool) → registerRefusal archived (h .pads) s ≡ number
+    → All (Fit (sheetOf h)) (waitingList h) → All (Fit (sheetOf (registerBy number h s .hub))) (waitingList (registerBy number h s .hub))
+register-tidy zero h s desk archived taken all =
+    let e = either-taken archived (h .pads) s taken in
     subst (All (Fit (sheetOf (next h s desk e)))) (sym (same-queue h s desk e)) (register-fits h s desk e all)
-register-tidy (suc number) h s desk e all = all
+register-tidy (suc number) h s desk archived taken all = all
 
 new-tidy : (number : ℕ) (h : Hub) → number ≡ 0 → waitingList h ≡ [] → All (Fit (sheetOf (newBy number h .hub))) (waitingList (newBy number h .hub))
 new-tidy zero h e none = subst (All (Fit (sheetOf h))) (sym none) empty
@@ -110,10 +112,10 @@ counted-tidy h n all = all
 -- ---- whatever is played
 
 pub tidy : {h : Hub} {rs : List RawRecord} → Played h rs → All (Fit (sheetOf h)) (waitingList h)
-unfolding newOf registerOf incOf resetOf
+unfolding newOf registerAs incOf resetOf
 tidy (fresh pressed released reversed ok) =
     new-tidy (thresholdsRefusal pressed released) (freshHub pressed released reversed true true) ok (unfold freshHub waitingList ringList in refl)
-tidy (register {h} sheet w) = register-tidy (registerRefusal (h .pads) sheet) h sheet (reached-desk (reached w)) refl (tidy w)
+tidy (register {h} archived sheet w) = register-tidy (registerRefusal archived (h .pads) sheet) h sheet (reached-desk (reached w)) archived refl (tidy w)
 tidy (take {h} r none ok w) =
     subst (λ (s : Sheet). All (Fit s) (waitingList (stepHub h (lookAt r)))) (sym (same-sheet h (lookAt r)))
     (take-tidy h (ready w) (reached-desk (reached w)) r (good h r ok) none (nothing-lost h (lookAt r) (reached-sound (reached w))))

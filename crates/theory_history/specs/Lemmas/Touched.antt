@@ -21,9 +21,10 @@ use Rattle.rules.specs.Refusals.{thresholdsRefusal}
 use Rattle.rules.specs.Events.{codeOf, formEvent}
 use Rattle.rules.specs.Hub.{placeIn, hasButtonAt}
 use Rattle.rules.specs.Step.{marksCleared, markedOf, pushedOf, filteredHub, takenOf, updatedAt, updatedOf, stepEvent, stepHub}
-use Rattle.rules.specs.Calls.{freshHub, newBy, newOf, registeredAt, registerRefusal, registerBy, registerOf, updateFormBy, countedAt, incOf, resetOf}
+use Rattle.rules.specs.Calls.{freshHub, newBy, newOf, registeredAt, registerRefusal, registerBy, registerAs, updateFormBy, countedAt, incOf, resetOf}
 use Rattle.pad.specs.Lookup.{place-stands}
 use Rattle.theory_registered.specs.Converts.{place-same}
+use Rattle.theory_registered.specs.Columns.{either-taken}
 use Rattle.theory_registered.specs.Pads.{Desk, reached-desk}
 use Rattle.theory_history.specs.Lemmas.Cells.{Long}
 use Rattle.theory_history.specs.Lemmas.Marks.{all-same, still-there}
@@ -52,7 +53,7 @@ counted-found h n f = fewer h _ refl (λ k up. up) f
 
 -- ---- registration
 
-module _ (h : Hub) (s : List ℕ) (desk : Desk h) (ok : registerRefusal (h .pads) s ≡ 0) (long : Long h) (f : Found h) where
+module _ (h : Hub) (s : List ℕ) (desk : Desk h) (ok : registerRefusal true (h .pads) s ≡ 0) (long : Long h) (f : Found h) where
   abbrev then : Hub
   then = next h s desk ok
 
@@ -68,11 +69,12 @@ module _ (h : Hub) (s : List ℕ) (desk : Desk h) (ok : registerRefusal (h .pads
       ap (λ (c : ℕ). placeIn then (k / placesPerPad) c) (same .at k 0 (omega arith) (omega arith))
       ∙ (place-same (then .codes) (h .codes) (k / placesPerPad) (getD (h .codes) k 0) same ∙ f .at k inside (was-hasbutton k up))
 
-register-found : (number : ℕ) (h : Hub) (s : List ℕ) → Desk h → Long h → registerRefusal (h .pads) s ≡ number → Found h
+register-found : (number : ℕ) (h : Hub) (s : List ℕ) → Desk h → Long h → (archived : Bool) → registerRefusal archived (h .pads) s ≡ number → Found h
     → Found (registerBy number h s .hub)
-register-found zero h s desk long ok f =
+register-found zero h s desk long archived taken f =
+    let ok = either-taken archived (h .pads) s taken in
     record { at = λ k inside up. register-at h s desk ok long f k inside up (eqb (k / placesPerPad) (h .pads)) refl }
-register-found (suc number) h s desk long ok f = f
+register-found (suc number) h s desk long archived taken f = f
 
 -- ---- an event writes the place that the lookup of its code answers
 
@@ -105,10 +107,10 @@ step-found h l f =
 -- ---- whatever is played
 
 pub found : {h : Hub} {rs : List RawRecord} → Played h rs → Found h
-unfolding newOf registerOf incOf resetOf
+unfolding newOf registerAs incOf resetOf
 found (fresh pressed released reversed ok) = fresh-found (thresholdsRefusal pressed released) pressed released reversed ok
-found (register {h} sheet w) =
-    register-found (registerRefusal (h .pads) sheet) h sheet (reached-desk (reached w)) (ready w .long) refl (found w)
+found (register {h} archived sheet w) =
+    register-found (registerRefusal archived (h .pads) sheet) h sheet (reached-desk (reached w)) (ready w .long) archived refl (found w)
 found (take {h} r none ok w) = step-found h (lookAt r) (found w)
 found (serve {h} some w) = step-found h look (found w)
 found (inc {h} w) = counted-found h _ (found w)

@@ -1,0 +1,4 @@
+pub mod Refused
+pub mod Account
+pub mod Mark
+mod Example
