@@ -89,9 +89,9 @@ kept-hats :
 unfolding blank bare registerAs sheetBytes
 kept-hats = refl
 
-whole-converts : registerArchivedOf (blank 1) (sheetBytes 7 []) .hub .converts ≡ true ∷ false ∷ false ∷ false ∷ []
+partial-unconverted : registerArchivedOf (blank 1) (sheetBytes 7 []) .hub .converts ≡ true ∷ false ∷ false ∷ false ∷ []
 unfolding blank bare registerAs sheetBytes
-whole-converts = refl
+partial-unconverted = refl
 
 -- what the plain call takes, the archived one takes as it does
 archived-alike : registerArchivedOf (blank 1) (sheetBytes 15 []) .hub ≡ registerOf (blank 1) (sheetBytes 15 []) .hub
