@@ -101,6 +101,7 @@ pub extern "C" fn copperyarn_lent_register(
         (now (sheet .entry)))) ⌝ }
 {
     let r = desk::register(
+        false,
         head,
         codes,
         kinds,
@@ -139,7 +140,8 @@ pub extern "C" fn copperyarn_lent_register_archived(
         (columns (now (hasbutton .entry)) (now (hasaxis .entry)) (now (values .entry)) times (now (marks .entry)) queuebytes queuecodes))
         (now (sheet .entry)))) ⌝ }
 {
-    let r = desk::register_archived(
+    let r = desk::register(
+        true,
         head,
         codes,
         kinds,

@@ -7,7 +7,7 @@ ghost use mathlib.Core.List.{List};
 ghost use Prim.Native.Nat.{ℕ, _<_};
 ghost use lib.Ieee.{Float};
 ghost use Rattle.rules.specs.Names.{padLimit};
-ghost use Rattle.rules.specs.Calls.{newOf, registerAs, registerOf, registerArchivedOf, renameRefusal, renameOf};
+ghost use Rattle.rules.specs.Calls.{newOf, registerAs, renameRefusal, renameOf};
 ghost use Rattle.hub.specs.Lent.{Listed, Columns, listed, columns, hubOf, answered, registered};
 ghost use Rattle.hub.specs.Heads.{freshHead};
 ghost use Rattle.desk.specs.Heads.{registeredHead, renamedHead};
@@ -22,12 +22,11 @@ use hub::RegisteredHead;
 use rules::Answer;
 use rules::COUNT_AT;
 use rules::FLAGS_PER_PAD;
+use rules::HATS_AT;
 use rules::NO_NAME;
 use rules::PADS;
 use rules::PLACES_PER_PAD;
 use rules::RegisterAnswer;
-
-const HATS_AT: usize = 3;
 
 // ---- new
 
@@ -132,8 +131,8 @@ fn with_pad(head: Head, p: u8, hats: u8, count: u8, converts: bool) -> Head
     h
 }
 
-// A pad from its sheet, new or archived: the pad's number, or 2, 3, 4, 29 for a new sheet, 5 in this order.
-pub fn register_as(
+// A pad from its sheet: the pad's number, or 2, 3, 4, 29, 5 in this order. W-212's second call is the one with `archived`, which leaves 29 out.
+pub fn register(
     archived: bool,
     head: Head,
     codes: &mut [u32; 208],
@@ -177,72 +176,6 @@ pub fn register_as(
         head: with_pad(head, p, hats, count, converts),
         answer: RegisterAnswer::Pad(p),
     }
-}
-
-// A pad from a new sheet: the pad's number, or 2, 3, 4, 29, 5 in this order.
-pub fn register(
-    head: Head,
-    codes: &mut [u32; 208],
-    kinds: &mut [u8; 208],
-    names: &mut [u8; 208],
-    hasbutton: &mut [bool; 208],
-    hasaxis: &mut [bool; 208],
-    values: &mut Values,
-    marks: &mut Marks,
-    sheet: &[u8],
-) -> RegisteredHead
-    ensures { λ r. ⌜ ((renames times queuebytes queuecodes : List ℕ) →
-        registered r (listed (now (codes .exit)) (now (kinds .exit)) (now (names .exit)) renames)
-        (columns (now (hasbutton .exit)) (now (hasaxis .exit)) (now (values .exit)) times (now (marks .exit)) queuebytes queuecodes)
-        ≡ registerOf (hubOf head (listed (now (codes .entry)) (now (kinds .entry)) (now (names .entry)) renames)
-        (columns (now (hasbutton .entry)) (now (hasaxis .entry)) (now (values .entry)) times (now (marks .entry)) queuebytes queuecodes))
-        (now (sheet .entry))) ⌝ }
-{
-    register_as(
-        false,
-        head,
-        codes,
-        kinds,
-        names,
-        hasbutton,
-        hasaxis,
-        values,
-        marks,
-        sheet,
-    )
-}
-
-// A pad from an archived sheet, whose hats may be partial: the pad's number, or 2, 3, 4, 5 in this order.
-pub fn register_archived(
-    head: Head,
-    codes: &mut [u32; 208],
-    kinds: &mut [u8; 208],
-    names: &mut [u8; 208],
-    hasbutton: &mut [bool; 208],
-    hasaxis: &mut [bool; 208],
-    values: &mut Values,
-    marks: &mut Marks,
-    sheet: &[u8],
-) -> RegisteredHead
-    ensures { λ r. ⌜ ((renames times queuebytes queuecodes : List ℕ) →
-        registered r (listed (now (codes .exit)) (now (kinds .exit)) (now (names .exit)) renames)
-        (columns (now (hasbutton .exit)) (now (hasaxis .exit)) (now (values .exit)) times (now (marks .exit)) queuebytes queuecodes)
-        ≡ registerArchivedOf (hubOf head (listed (now (codes .entry)) (now (kinds .entry)) (now (names .entry)) renames)
-        (columns (now (hasbutton .entry)) (now (hasaxis .entry)) (now (values .entry)) times (now (marks .entry)) queuebytes queuecodes))
-        (now (sheet .entry))) ⌝ }
-{
-    register_as(
-        true,
-        head,
-        codes,
-        kinds,
-        names,
-        hasbutton,
-        hasaxis,
-        values,
-        marks,
-        sheet,
-    )
 }
 
 // ---- rename

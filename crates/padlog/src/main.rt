@@ -195,6 +195,7 @@ fn log(input: &[u8], out: &mut [u8; 16384], text: &mut [u8; 559538]) -> usize
     let fresh = opened.head;
     let end = sheet_end(input);
     let registered = desk::register(
+        false,
         fresh,
         &mut codes,
         &mut kinds,

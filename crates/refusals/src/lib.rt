@@ -13,6 +13,7 @@ use rules::ELEMENT_BUTTON;
 use rules::EVENT_AXIS;
 use rules::EventForm;
 use rules::KIND_AXIS;
+use rules::LAST_HATS;
 use rules::NOWHERE;
 use rules::NextRecord;
 use rules::PADS;
@@ -25,8 +26,6 @@ const LAST_WAIT: u64 = 60_000_000;
 const BUFFER_LIMIT: usize = 16_384;
 
 const INSERT_LIMIT: u8 = 16;
-
-const LAST_HATS: u8 = 15;
 
 // ---- in order: a number where the input does not fit, and the first number that there is
 

@@ -115,7 +115,7 @@ fn register(
         (columns (now (hasbutton .entry)) (now (hasaxis .entry)) (now (values .entry)) times (now (marks .entry)) queuebytes queuecodes))
         (now (sheet .entry))) ⌝ }
 {
-    let r = desk::register_as(
+    let r = desk::register(
         archived,
         head,
         codes,

@@ -17,8 +17,13 @@ pub const FLAGS_PER_PAD: usize = 6;
 
 pub const SHEET_OPENING: usize = 5;
 
-// where a sheet has its count of elements
+// where a sheet has its hats, and its count of elements
+pub const HATS_AT: usize = 3;
+
 pub const COUNT_AT: usize = 4;
+
+// all four hat directions are mapped
+pub const LAST_HATS: u8 = 15;
 
 pub const ELEMENT_SIZE: usize = 18;
 

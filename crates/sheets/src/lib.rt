@@ -2,9 +2,12 @@
 use refusals::first;
 use refusals::hats_refusal;
 use refusals::unless_fits;
+use rules::COUNT_AT;
 use rules::ELEMENT_AXIS;
 use rules::ELEMENT_BUTTON;
 use rules::ELEMENT_SIZE;
+use rules::HATS_AT;
+use rules::LAST_HATS;
 use rules::NO_NAME;
 use rules::SHEET_OPENING;
 use rules::SheetElement;
@@ -21,10 +24,8 @@ ghost use Rattle.rules.specs.Sheets.{elementFields, elementOf, sheetFits, isZer
 // where in an element its name stands
 const NAME_OFFSET: usize = 5;
 
-// "Elements per pad 0..48"; "hats 0..15"; "Deadzone 0..16,777,215 or absent"
+// "Elements per pad 0..48"
 const ELEMENT_LIMIT: u8 = 48;
-
-const LAST_HATS: u8 = 15;
 
 // ---- elements
 
@@ -208,7 +209,7 @@ fn sheet_fits(s: &[u8]) -> bool
     if size < SHEET_OPENING {
         return false;
     }
-    let count = s[4];
+    let count = s[COUNT_AT];
     if size != SHEET_OPENING + ELEMENT_SIZE * (count as usize) {
         return false;
     }
@@ -225,10 +226,10 @@ pub fn sheet_refusal(archived: bool, s: &[u8]) -> u8
     if !sheet_fits(s) {
         return 3;
     }
-    let count = s[4] as usize;
-    let hats = unless_fits(!(LAST_HATS < s[3]), 4);
+    let count = s[COUNT_AT] as usize;
+    let hats = unless_fits(!(LAST_HATS < s[HATS_AT]), 4);
     let rules = unless_fits(elements_fit(s, count), 4);
-    let partial = hats_refusal(archived, s[3]);
+    let partial = hats_refusal(archived, s[HATS_AT]);
     let names = unless_fits(
         !occurs_twice(s, SHEET_OPENING + NAME_OFFSET, ELEMENT_SIZE, count),
         5,

@@ -128,10 +128,6 @@ module _ (h : Hub) (s : List ℕ) where
           → cond (partialOf (hatsOf s) && takenButNames (registerRefusal true (h .pads) s)) 29 (registerRefusal true (h .pads) s) ≡ 29
       by n e takes = rw (partial, e, takes)
 
-  -- so it leaves the hub
-  pub partial-leaves : registerAs false h s .answer ≡ Refused 29 → registerAs false h s .hub ≡ h
-  partial-leaves e = refused-leaves false h s 29 e
-
   -- the archived call never answers 29
   pub archived-takes-partial : registerAs true h s .answer ≡ Refused 29 → ⊥
   archived-takes-partial e = archived-not-29 (h .pads) s (number-is true h s (Refused 29) e)

@@ -4,14 +4,14 @@ use Rattle.copperyarn.specs.Exports.{enrolledOf}
 use Rattle.copperyarn.proofs.copperyarn_lent_register_archived.Statement.{statement}
 use Rattle.copperyarn.proofs.copperyarn_lent_register_archived.Tie as tie
 
-register-archived-requires : tie.Need-register-archived-requires
-register-archived-requires c κs = tt
+register-requires : tie.Need-register-requires
+register-requires c κs = tt
 
 pad-of-requires : tie.Need-pad-of-requires
 pad-of-requires c κs = tt
 
 returns : tie.Need-returns
-returns c renames times queuebytes queuecodes = rw (c .pad-of .ensures) (ap enrolledOf (c .before .before .register-archived .ensures renames times queuebytes queuecodes))
+returns c renames times queuebytes queuecodes = rw (c .pad-of .ensures) (ap enrolledOf (c .before .before .register .ensures renames times queuebytes queuecodes))
 
 pub copperyarn-lent-register-archived-spec : {M : Type 1} → statement M
-copperyarn-lent-register-archived-spec = tie.close (tie.spec register-archived-requires pad-of-requires returns)
+copperyarn-lent-register-archived-spec = tie.close (tie.spec register-requires pad-of-requires returns)

@@ -1,4 +1,4 @@
--- `replay_desk::register` meets its contract: what `desk::register_as` ensures, told.
+-- `replay_desk::register` meets its contract: what `desk::register` ensures, told.
 use mathlib.Core.Path.{_∙_, ap}
 use Rattle.replay_answers.specs.Told.{told-is}
 use Rattle.replay_desk.specs.SetUp.{registered, registeredOf}
@@ -6,8 +6,8 @@ use borrow.Author.Needs.{needs}
 use Rattle.replay_desk.proofs.register.Statement.{statement}
 use Rattle.replay_desk.proofs.register.Tie as tie
 
-register-as-requires : tie.Need-register-as-requires
-register-as-requires c κs = search needs
+register-requires : tie.Need-register-requires
+register-requires c κs = search needs
 
 tell-requires : tie.Need-tell-requires
 tell-requires c κs = search needs
@@ -15,7 +15,7 @@ tell-requires c κs = search needs
 returns : tie.Need-returns
 unfolding registeredOf
 returns c renames times queuebytes queuecodes =
-    told-is _ _ _ (c .tell .ensures) ∙ ap registered (c .before .before .register-as .ensures renames times queuebytes queuecodes)
+    told-is _ _ _ (c .tell .ensures) ∙ ap registered (c .before .before .register .ensures renames times queuebytes queuecodes)
 
 pub register-spec : {M : Type 1} → statement M
-register-spec = tie.close (tie.spec register-as-requires tell-requires returns)
+register-spec = tie.close (tie.spec register-requires tell-requires returns)

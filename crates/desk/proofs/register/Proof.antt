@@ -1,4 +1,4 @@
--- `desk::register_as` meets its contract: by the refusals in their order, and the sheet laid into the arrays.
+-- `desk::register` meets its contract: by the refusals in their order, and the sheet laid into the arrays.
 use Prim.Native.Nat.{ℕ, _≤_, _<_}
 use lib.ListN.{length}
 use mathlib.Core.Bool.{Bool}
@@ -11,8 +11,8 @@ use Rattle.sheets.specs.Laws.{archived-takes}
 use Rattle.layout.specs.Good.{good}
 use Rattle.desk.specs.Register.{register-full, register-refused, register-lent}
 use borrow.Author.Needs.{needs}
-use Rattle.desk.proofs.register_as.Statement.{statement}
-use Rattle.desk.proofs.register_as.Tie as tie
+use Rattle.desk.proofs.register.Statement.{statement}
+use Rattle.desk.proofs.register.Tie as tie
 
 -- a byte of the opening of a sheet that is not refused
 opening-inside : (archived : Bool) (s : List ℕ) {number i : ℕ} → number ≡ sheetRefusal archived s → number ≤ 0 → i < sheetOpening → i < length s
@@ -74,8 +74,8 @@ returns-3 c renames times queuebytes queuecodes =
     (widened .before .before .before .if2 .left) refl refl (widened .wide .ensures .0) (laid .lay-in .ensures)
     (cleared .before .before .clear .ensures) (cleared .clear2 .ensures) (c .before .converts .ensures) (c .with-pad .ensures)
 
-pub register-as-spec : {M : Type 1} → statement M
-register-as-spec =
+pub register-spec : {M : Type 1} → statement M
+register-spec =
     tie.close
     (tie.spec
     returns
