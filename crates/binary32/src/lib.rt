@@ -1,4 +1,6 @@
 // binary32 by its bits: a value and its bits, gilrs's clamp, and the square root worked out on whole numbers, which is IEEE 754's for every f32.
+#![tactic(auto)]
+
 ghost use Rattle.std.specs.Prelude.{◌≡◌, ◌+◌, ◌-◌, ◌*◌, ◌/◌, ◌%◌, ◌≤◌, ◌<◌, ◌^◌};
 ghost use Rattle.std.specs.Float.Ieee as Ieee;
 ghost use Rattle.std.specs.Float.{binary32};
@@ -42,6 +44,7 @@ pub fn bits_of(x: f32) -> u32
 }
 
 // gilrs's `utils::clamp`
+#[tactic(auto, unfolding(numbers::specs::Clamp::clamp_of))]
 pub fn clamp(x: f32, lo: f32, hi: f32) -> f32
     ensures { result ≡ clamp_of x lo hi }
 {
@@ -89,13 +92,14 @@ fn near_root(w: u64) -> u64
 }
 
 // A number above 0, counted in units of 2^-149 (the smallest binary32): 2^24 times its units is m * 2^z, and m has 24 binary digits.
-#[derive(Drop)]
+#[derive(Clone, Copy)]
 pub struct Leading {
     pub m: u64,
     pub z: u32,
 }
 
 // The same from the bits of a finite number above 0: the significand of a subnormal one is doubled until it has 24 digits.
+#[tactic(auto, unfolding(crate::specs::Units::units_at))]
 fn apart(bits: u32) -> Leading
     requires { (0 < bits) × (bits < 0x7f80_0000) }
     ensures { Apart (units_at bits) result.m result.z }
@@ -128,6 +132,7 @@ fn even(m: u64, z: u32) -> u64
 }
 
 // the root of a finite number above 0, from its bits
+#[tactic(auto, unfolding(numbers::specs::Root::root_units))]
 fn positive(bits: u32) -> f32
     requires { (0 < bits) × (bits < 0x7f80_0000) }
     ensures { result ≡ root_units (units_at bits) }
@@ -140,6 +145,7 @@ fn positive(bits: u32) -> f32
 }
 
 // IEEE 754's square_root, from bits, for every f32
+#[tactic(auto, unfolding(numbers::specs::Root::sqrt_of))]
 pub fn sqrt(x: f32) -> f32
     ensures { result ≡ sqrt_of x }
 {
@@ -160,6 +166,7 @@ pub fn sqrt(x: f32) -> f32
 }
 
 // 01's "Magnitude sqrt(x*x + y*y) held to 0..1"
+#[tactic(auto, unfolding(numbers::specs::Root::magnitude_of))]
 pub fn magnitude(x: f32, y: f32) -> f32
     ensures { result ≡ magnitude_of x y }
 {

@@ -1,6 +1,8 @@
 // The calls of document 01 that take an event's bytes, on a hub that is lent: `update` gives it to the state, `insert_event` to the queue. Each is lent the arrays
 // that it reads and changes, and answers what its definition in the law book says, at the hub that head and arrays stand for, whatever the others hold; a
 // refusal leaves the hub as it was.
+#![tactic(auto)]
+
 ghost use Rattle.std.specs.Prelude.{◌≡◌, Bool, List, ℕ};
 ghost use Rattle.rules.specs.Calls.{update_of, insert_of};
 ghost use Rattle.pad.specs.Found.{Placed};
@@ -25,6 +27,7 @@ fn event_place(codes: &[u32; 208], p: u8, code: u32, formcode: u32, place: usize
 }
 
 // A form that is well made: refused, or done. The place of the form's code is the event's too, but for kinds 6 to 8, which carry no code.
+#[tactic(auto, unfolding(rules::specs::Events::form_event))]
 fn update_form<'s>(
     head: Head,
     codes: &'s [u32; 208],
@@ -70,6 +73,7 @@ fn update_form<'s>(
 }
 
 // Gives an event to the state.
+#[tactic(auto, unfolding(rules::specs::Calls::update_of, crate::specs::Judged::update_form))]
 pub fn update<'s>(
     head: Head,
     codes: &'s [u32; 208],
@@ -135,6 +139,7 @@ fn insert_form(
 }
 
 // Lets an event wait.
+#[tactic(auto, unfolding(rules::specs::Calls::insert_of, crate::specs::Judged::insert_form))]
 pub fn insert_event(
     head: Head,
     codes: &[u32; 208],

@@ -1,5 +1,7 @@
 // What a step sees and writes of the records in their columns: one call for all that it sees, one for the state after an event. The loop above is lent the
 // arrays; a read or a store of its own for each record would cost its check far more.
+#![tactic(auto)]
+
 ghost use Rattle.std.specs.Prelude.{◌≡◌, ◌≤◌, get_or};
 ghost use Rattle.rules.specs.Names.{nowhere};
 ghost use Rattle.rules.specs.Hub.{past_element, past_button, past_axis};
@@ -36,6 +38,7 @@ pub fn view_in(values: &Values, times: &Times, marks: &Marks, s: EventPlaces) ->
 }
 
 // The value of a place: its axis record's, else its button record's.
+#[tactic(auto, unfolding(gather::specs::EventPlaces::place_marks_of))]
 pub fn value_in<'a>(
     hasbutton: &'a [bool; 208],
     hasaxis: &'a [bool; 208],

@@ -1,4 +1,6 @@
 // `&&`, `||`, a choice and a minimum as functions. Where a body would branch, its proof would have two cases from there on; a call leaves one.
+#![tactic(auto)]
+
 ghost use Rattle.std.specs.Prelude.{◌≡◌, cond, ◌&&◌, ◌||◌, min, ◌<◌};
 
 // And, both sides worked out: a `&&` in a body costs its proof a branch.

@@ -1,6 +1,8 @@
 // The calls of document 01 that go by time, on a hub that is lent: the counter, which stands in the head, so that no array is lent, and Repeat with the clock as
 // input, which is lent the arrays that it reads. Each answers what its definition in the law book says, at the hub that head and arrays stand for, for any
 // numbers and whatever the arrays hold that it is not lent.
+#![tactic(auto)]
+
 ghost use Rattle.std.specs.Prelude.{◌≡◌, Bool, false, List, ℕ, ◌+◌, ◌*◌, ◌≤◌, ◌<◌, get_or};
 ghost use Rattle.rules.specs.Names.{nowhere};
 ghost use Rattle.rules.specs.Hub.{past_button};
@@ -19,6 +21,7 @@ const PADS: usize = 4;
 // ---- the counter: "The counter goes from 2^62-1 to 0"
 
 // The hub with its counter one up: gilrs's `Gilrs::inc`.
+#[tactic(auto, unfolding(rules::specs::Calls::inc_of, rules::specs::Calls::counted_at))]
 pub fn inc(head: Head) -> Head
     ensures { (s : Listed) (t : Columns) → hub_of result s t ≡ inc_of (hub_of head s t) }
 {
@@ -35,6 +38,7 @@ pub fn counter(head: Head) -> u64
 }
 
 // The hub with its counter at 0: gilrs's `Gilrs::reset_counter`.
+#[tactic(auto, unfolding(rules::specs::Calls::reset_of, rules::specs::Calls::counted_at))]
 pub fn reset_counter(head: Head) -> Head
     ensures { (s : Listed) (t : Columns) → hub_of result s t ≡ reset_of (hub_of head s t) }
 {
@@ -152,6 +156,7 @@ fn first_place(
 }
 
 // The first due button of the connected pads, with the clock as input: gilrs's `Repeat`.
+#[tactic(auto, unfolding(rules::specs::Repeat::due_place))]
 pub fn repeat<'s>(
     head: Head,
     codes: &[u32; 208],

@@ -1,5 +1,7 @@
 // The hub's records in columns of numbers, and the columns packed by type into arrays that are lent: a record read from its place, and one stored there in
 // place. Where a column starts in its array is said here and in specs/Columns.antt, and nowhere above.
+#![tactic(auto)]
+
 ghost use Rattle.std.specs.Prelude.{◌≡◌, ◌<◌, ◌≤◌, get_or, length};
 ghost use Rattle.rules.specs.Names.{nowhere, queue_room};
 ghost use Rattle.rules.specs.Hub.{past_element, past_button, past_axis, past_slot};

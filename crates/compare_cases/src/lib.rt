@@ -1,4 +1,6 @@
 // A case of the stored list of decisions: 26 words of four bytes, the highest first, with events of four words in it.
+#![tactic(auto)]
+
 ghost use Rattle.std.specs.Prelude.{◌≡◌, cond, not, ◌||◌, ◌+◌, ◌≤◌, ◌<◌};
 ghost use Rattle.rules.specs.Forms.{signed_of};
 ghost use Rattle.rules.specs.Events.{slot_of};

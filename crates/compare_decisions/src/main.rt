@@ -1,5 +1,7 @@
 // Plays a stored list of cases, a decision's inputs and what gilrs did with them, against the proved functions, and prints for each kind of case
 // how many were played and how many came out wrong.
+#![tactic(auto)]
+
 ghost use Rattle.std.specs.Prelude.{◌+◌, ◌≤◌};
 
 use filters::dpad;

@@ -1,5 +1,7 @@
 // Judges a stored list of sheets, records and events, each with the pads that it meets, and prints the refusal of each: the list and its answers are
 // those of an independent reader (`oracle/reader.py`, whose head says what a case is).
+#![tactic(auto)]
+
 use libc::{STDIN_FILENO, STDOUT_FILENO};
 use rules::{EventRead, MALFORMED, PADS, PLACES_PER_PAD};
 
@@ -15,7 +17,7 @@ const INSERTED: u8 = 4;
 const NEW_SHEET: u8 = 5;
 
 // The pads of a case, their places' codes and kinds, and where what they meet begins.
-#[derive(Drop)]
+#[derive(Clone, Copy)]
 struct Met {
     pads: u8,
     codes: [u32; 208],

@@ -1,4 +1,6 @@
 // Plays a stored list of values against each leaf of the arithmetic, bit for bit, and prints for each how many were played and how many came out wrong.
+#![tactic(auto)]
+
 ghost use Rattle.std.specs.Prelude.{◌+◌, ◌≤◌, ◌<◌};
 
 use libc::{STDIN_FILENO, STDOUT_FILENO};
@@ -85,7 +87,7 @@ fn magnitude(record: &[u8; 20]) -> bool {
 }
 
 // what an axis element keeps of its min and max, words 0 and 1; nothing of numbers outside 01's limits
-#[derive(Drop)]
+#[derive(Clone, Copy)]
 struct Element {
     low: f32,
     range: f32,

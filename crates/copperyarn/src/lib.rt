@@ -1,6 +1,8 @@
 // The hub for programs in C and Rust, every public call of it: they hold the head and the arrays, and lend what a call reads or writes; nothing of the hub is
 // copied but the head's 120 bytes. `include/copperyarn.h` and `rust/` put one struct in front, whose fields they lend. Each export is proved to be the call: its
 // contract is the law book's equation at the hub that head and arrays stand for, with the answer in the plain struct that crosses (`crossing`). It asks nothing.
+#![tactic(auto)]
+
 mod asking;
 
 ghost use Rattle.std.specs.Prelude.{◌≡◌, Bool, List, ℕ, Float};

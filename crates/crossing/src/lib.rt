@@ -1,6 +1,8 @@
 // The answers of the public calls as plain structs that C and Rust can hold: an enum cannot cross, so each struct has the refusal's number, 0 where the call was
 // served, and the values, 0 or false where there is none. Proved: every field is what specs/Crossing.antt says of the answer; that this is what the law book's
 // `*Says` says is closed by computation there.
+#![tactic(auto)]
+
 ghost use Rattle.std.specs.Prelude.{◌≡◌};
 ghost use Rattle.crossing.specs.Crossing.{refusal_of, pad_of, truth_of, value_of, number_of};
 ghost use Rattle.crossing.specs.Crossing.{known_button, no_button, button_of, known_axis, no_axis, axis_of, report_by, report_of, tilted_pair_of, due_of, due_bytes, down_of};
@@ -32,14 +34,14 @@ const FULL_TILT: u8 = 3;
 
 // A registered pad's number.
 #[repr(C)]
-#[derive(Drop)]
+#[derive(Clone, Copy)]
 pub struct Pad {
     pub refusal: u8,
     pub pad: u8,
 }
 
 #[repr(C)]
-#[derive(Drop)]
+#[derive(Clone, Copy)]
 pub struct Truth {
     pub refusal: u8,
     pub is: bool,
@@ -47,7 +49,7 @@ pub struct Truth {
 
 // `known` is false where there is no such value.
 #[repr(C)]
-#[derive(Drop)]
+#[derive(Clone, Copy)]
 pub struct Value {
     pub refusal: u8,
     pub known: bool,
@@ -56,7 +58,7 @@ pub struct Value {
 
 // A name's number or a code.
 #[repr(C)]
-#[derive(Drop)]
+#[derive(Clone, Copy)]
 pub struct Number {
     pub refusal: u8,
     pub known: bool,
@@ -64,7 +66,7 @@ pub struct Number {
 }
 
 #[repr(C)]
-#[derive(Drop)]
+#[derive(Clone, Copy)]
 pub struct Button {
     pub refusal: u8,
     pub known: bool,
@@ -77,7 +79,7 @@ pub struct Button {
 }
 
 #[repr(C)]
-#[derive(Drop)]
+#[derive(Clone, Copy)]
 pub struct Axis {
     pub refusal: u8,
     pub known: bool,
@@ -88,7 +90,7 @@ pub struct Axis {
 
 // What is down on a pad: how many of its button records are pressed, and whether an axis element's is.
 #[repr(C)]
-#[derive(Drop)]
+#[derive(Clone, Copy)]
 pub struct Down {
     pub refusal: u8,
     pub count: u8,
@@ -98,7 +100,7 @@ pub struct Down {
 // What a pump did: why it stopped (0 where it was refused), which of three the deadzone calculation was for its last axis event that met a threshold, the place in
 // the batch, the events written and the steps made.
 #[repr(C)]
-#[derive(Drop)]
+#[derive(Clone, Copy)]
 pub struct Report {
     pub refusal: u8,
     pub reason: u8,
@@ -110,7 +112,7 @@ pub struct Report {
 
 // The deadzone calculation: the pair, and which of the three it was.
 #[repr(C)]
-#[derive(Drop)]
+#[derive(Clone, Copy)]
 pub struct TiltedPair {
     pub x: f32,
     pub y: f32,
@@ -119,7 +121,7 @@ pub struct TiltedPair {
 
 // Whether a repeat is due; its event's bytes stand in the buffer that was lent.
 #[repr(C)]
-#[derive(Drop)]
+#[derive(Clone, Copy)]
 pub struct Due {
     pub refusal: u8,
     pub due: bool,
@@ -128,21 +130,21 @@ pub struct Due {
 // ---- the head after a call that changes it, with its answer
 
 #[repr(C)]
-#[derive(Drop)]
+#[derive(Clone, Copy)]
 pub struct Done {
     pub head: Head,
     pub refusal: u8,
 }
 
 #[repr(C)]
-#[derive(Drop)]
+#[derive(Clone, Copy)]
 pub struct Registered {
     pub head: Head,
     pub pad: Pad,
 }
 
 #[repr(C)]
-#[derive(Drop)]
+#[derive(Clone, Copy)]
 pub struct Pumped {
     pub head: Head,
     pub report: Report,

@@ -1,6 +1,8 @@
 // The calls that set a desk up, on a hub that is lent: a fresh hub, a pad from its sheet, and new names for a pad. The head goes in and comes back by value,
 // each array is lent by itself and changed where it stands. Each equals its definition in the law book for every input, at the hub that head and arrays stand
 // for, whatever the arrays hold that it is not lent.
+#![tactic(auto)]
+
 ghost use Rattle.std.specs.Prelude.{◌≡◌, Bool, List, ℕ, ◌<◌, Float};
 ghost use Rattle.rules.specs.Names.{pad_limit};
 ghost use Rattle.rules.specs.Calls.{new_of, register_as, rename_refusal, rename_of};
@@ -17,6 +19,7 @@ use rules::{
 // ---- new
 
 // The head of a hub with no pads, an empty queue and the counter at 0.
+#[tactic(auto, unfolding(hub::specs::Heads::fresh_head))]
 fn fresh(pressed: f32, released: f32, reversed: bool, filters: bool, updates: bool) -> Head
     ensures { result ≡ fresh_head pressed released reversed filters updates }
 {
@@ -118,6 +121,7 @@ fn with_pad(head: Head, p: u8, hats: u8, count: u8, converts: bool) -> Head
 }
 
 // A pad from its sheet: the pad's number, or 2, 3, 4, 29, 5 in this order. W-212's second call is the one with `archived`, which leaves 29 out.
+#[tactic(auto, unfolding(rules::specs::Sheets::hats_of, rules::specs::Sheets::count_of))]
 pub fn register(
     archived: bool,
     head: Head,
@@ -166,6 +170,7 @@ pub fn register(
 
 // ---- rename
 
+#[tactic(auto, unfolding(rules::specs::Calls::rename_refusal))]
 fn rename_refusal(head: Head, p: u8, list: &[u8]) -> u8
     ensures { (s : Listed) (t : Columns) → result ≡ rename_refusal (hub_of head s t) p list.now }
 {
@@ -179,6 +184,7 @@ fn rename_refusal(head: Head, p: u8, list: &[u8]) -> u8
 }
 
 // The head with a pad that goes by other names, and whose hats are 0.
+#[tactic(auto, unfolding(crate::specs::Heads::renamed_head))]
 fn with_names(head: Head, p: u8, converts: bool) -> Head
     ensures { result ≡ renamed_head head p converts }
 {

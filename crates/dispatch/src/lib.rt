@@ -1,5 +1,7 @@
 // What a raw record gives: gilrs's `next_event_priv`, on the record, the element's present name, what the hub keeps of it, whether its code reads
 // pressed, and the hub's settings.
+#![tactic(auto)]
+
 ghost use Rattle.std.specs.Prelude.{◌≡◌, true, not, ◌&&◌, ◌||◌, eqb};
 ghost use Rattle.std.specs.Float.Ieee.{le};
 ghost use Rattle.numbers.specs.Constants.{within_of};
@@ -53,6 +55,7 @@ fn double(e: Event, next: Event) -> Dispatched
 // ---- names: "unnamed elements are Unknown"
 
 // The name that an event of a button shows: a button's own, else Unknown.
+#[tactic(auto, unfolding(rules::specs::Dispatch::button_name))]
 pub fn button_name(name: u8) -> u8
     ensures { result ≡ law.button_name name }
 {
@@ -62,6 +65,7 @@ pub fn button_name(name: u8) -> u8
     names::UNKNOWN_BUTTON
 }
 
+#[tactic(auto, unfolding(rules::specs::Dispatch::axis_name))]
 fn axis_name(name: u8) -> u8
     ensures { result ≡ law.axis_name name }
 {
@@ -89,6 +93,7 @@ fn amount(on: bool) -> f32
 }
 
 // "Press of a button element: Pressed out, Changed 1.0 queued; release the same with 0.0; .. an element named as an axis gives that axis 1.0 or 0.0"
+#[tactic(auto, unfolding(rules::specs::Dispatch::press_gives))]
 fn press(r: RawRecord, name: u8, on: bool) -> Dispatched
     ensures { result ≡ law.press_gives r name on }
 {
@@ -120,6 +125,7 @@ fn releases(value: f32, held: bool, released: f32) -> bool
     if value <= released { held } else { false }
 }
 
+#[tactic(auto, unfolding(rules::specs::Dispatch::trigger_gives))]
 fn trigger(
     r: RawRecord,
     name: u8,
@@ -148,6 +154,7 @@ fn turned(reversed: bool, axis: u8) -> bool
     if reversed { names::is_y(axis) } else { false }
 }
 
+#[tactic(auto, unfolding(rules::specs::Dispatch::move_gives))]
 fn moved(
     r: RawRecord,
     name: u8,
@@ -186,6 +193,7 @@ fn is_press(kind: u8) -> bool
 }
 
 // What a taken record gives: gilrs's `next_event_priv`, with the value scaled and a trigger's press or release told by the thresholds.
+#[tactic(auto, unfolding(rules::specs::Dispatch::move_of, rules::specs::Dispatch::dispatch_of))]
 pub fn dispatch(
     r: RawRecord,
     name: u8,

@@ -1,5 +1,7 @@
 // What is down right now (W-213), kept beside the button records: of each pad the bits of its places, how many are set, and how many of those are axis elements'.
 // A record that begins or ceases to read pressed moves one bit and one or two counts; nothing here counts records.
+#![tactic(auto)]
+
 ghost use Rattle.std.specs.Prelude.{◌≡◌, ◌≤◌, ◌<◌, get_or, set, eqb};
 ghost use Rattle.rules.specs.Names.{places_per_pad};
 ghost use Rattle.rules.specs.Sheets.{element_axis};
@@ -45,6 +47,7 @@ fn put_bit(bits: u64, place: usize, v: bool) -> u64
 }
 
 // One more is pressed, or one less.
+#[tactic(auto, unfolding(rules::specs::Down::count_after))]
 fn count_after(n: u8, v: bool) -> u8
     ensures { result ≡ count_after n v }
 {

@@ -1,4 +1,6 @@
 // Events as values: what an event holds by its cases, how it waits in the queue and comes back, and the event of a form's 22 bytes.
+#![tactic(auto)]
+
 ghost use Rattle.std.specs.Prelude.{◌≡◌};
 ghost use Rattle.rules.specs.Events.{kind_type, name_type, code_type, value_type, dropped_type, kind_of, name_of, code_of, value_of, type_of, slot_of, event_of, form_of, form_event, is_dropped};
 ghost use Rattle.rules.specs.Filters.{kept_of};
@@ -99,6 +101,7 @@ fn dropped_type(t: EventType) -> bool
 }
 
 // The number of an event's kind, in its bytes.
+#[tactic(auto, unfolding(rules::specs::Events::kind_of))]
 pub fn kind_of(e: Event) -> u8
     ensures { result ≡ kind_of e }
 {
@@ -107,6 +110,7 @@ pub fn kind_of(e: Event) -> u8
 }
 
 // An event's name; 0 where it has none.
+#[tactic(auto, unfolding(rules::specs::Events::name_of))]
 pub fn name_of(e: Event) -> u8
     ensures { result ≡ name_of e }
 {
@@ -115,6 +119,7 @@ pub fn name_of(e: Event) -> u8
 }
 
 // An event's code; 0 where it has none.
+#[tactic(auto, unfolding(rules::specs::Events::code_of))]
 pub fn code_of(e: Event) -> u32
     ensures { result ≡ code_of e }
 {
@@ -123,6 +128,7 @@ pub fn code_of(e: Event) -> u32
 }
 
 // An event's value; 0.0 where it has none.
+#[tactic(auto, unfolding(rules::specs::Events::value_of))]
 pub fn value_of(e: Event) -> f32
     ensures { result ≡ value_of e }
 {
@@ -131,6 +137,7 @@ pub fn value_of(e: Event) -> f32
 }
 
 // Whether a filter dropped the event.
+#[tactic(auto, unfolding(rules::specs::Events::is_dropped))]
 pub fn is_dropped(e: Event) -> bool
     ensures { result ≡ is_dropped e }
 {
@@ -139,6 +146,7 @@ pub fn is_dropped(e: Event) -> bool
 }
 
 // "a dropped one is skipped (filters on)"
+#[tactic(auto, unfolding(rules::specs::Filters::kept_of))]
 pub fn kept(on: bool, e: Event) -> bool
     ensures { result ≡ kept_of on e }
 {
@@ -149,6 +157,7 @@ pub fn kept(on: bool, e: Event) -> bool
 }
 
 // The event of a kind, its name, code and value.
+#[tactic(auto, unfolding(rules::specs::Events::type_of))]
 pub fn type_of(kind: u8, name: u8, code: u32, value: f32) -> EventType
     ensures { result ≡ type_of kind name code value }
 {
@@ -177,6 +186,7 @@ pub fn type_of(kind: u8, name: u8, code: u32, value: f32) -> EventType
 }
 
 // An event as it waits.
+#[tactic(auto, unfolding(rules::specs::Events::slot_of))]
 pub fn slot_of(e: Event) -> Slot
     ensures { result ≡ slot_of e }
 {
@@ -191,6 +201,7 @@ pub fn slot_of(e: Event) -> Slot
 }
 
 // The event that waits in a slot.
+#[tactic(auto, unfolding(rules::specs::Events::event_of))]
 pub fn event_of(s: Slot) -> Event
     ensures { result ≡ event_of s }
 {
@@ -205,6 +216,7 @@ pub fn event_of(s: Slot) -> Event
 // ---- an event and its form
 
 // The event of a form.
+#[tactic(auto, unfolding(rules::specs::Events::form_event))]
 pub fn form_event(f: EventForm) -> Event
     ensures { result ≡ form_event f }
 {
@@ -218,6 +230,7 @@ pub fn form_event(f: EventForm) -> Event
 }
 
 // An event as its bytes will have it.
+#[tactic(auto, unfolding(rules::specs::Events::form_of))]
 pub fn form_of(e: Event) -> EventForm
     ensures { result ≡ form_of e }
 {

@@ -35,7 +35,7 @@ pub fn dropped(e: Event) -> Event
 // ---- dpad
 
 // What passes, and how many events are queued behind it.
-#[derive(Drop)]
+#[derive(Clone, Copy)]
 pub struct Converted {
     pub event: Event,
     pub count: u8,
@@ -48,6 +48,7 @@ fn alone(e: Event) -> Converted
 }
 
 // A direction is pressed; an opposite that is still held is released before it.
+#[tactic(auto, unfolding(rules::specs::Filters::hat_by))]
 fn toward(e: Event, held: bool, name: u8, code: u32, othername: u8, othercode: u32) -> Converted
     ensures { result ≡ counted (hat_by true false false held e (direction name code) (direction othername othercode)) }
 {
@@ -64,6 +65,7 @@ fn toward(e: Event, held: bool, name: u8, code: u32, othername: u8, othercode: u
 }
 
 // The hat rests: both directions are released where they are held, the negative one first.
+#[tactic(auto, unfolding(rules::specs::Filters::hat_by))]
 fn centred(
     e: Event,
     positive: bool,
@@ -115,6 +117,7 @@ fn hat(v: View, e: Event, n: u8, x: f32) -> Converted
 }
 
 // gilrs's `axis_dpad_to_button`
+#[tactic(auto, unfolding(rules::specs::Filters::dpad_of))]
 pub fn dpad(v: View, e: Event) -> Converted
     ensures { ConvertedIs v e result }
 {
@@ -150,6 +153,7 @@ fn one_of(a: Event, b: Event, c: Event, at: usize) -> Event
     either(at == 0, a, either(at == 1, b, c))
 }
 
+#[tactic(auto, unfolding(crate::specs::Queued::toward_at))]
 fn toward_at(e: Event, name: u8, code: u32, othername: u8, othercode: u32, at: usize) -> Event
     ensures { result ≡ toward_at e (direction name code) (direction othername othercode) at }
 {
@@ -159,6 +163,7 @@ fn toward_at(e: Event, name: u8, code: u32, othername: u8, othercode: u32, at: u
     one_of(reads, press, rests, at)
 }
 
+#[tactic(auto, unfolding(crate::specs::Queued::centred_at))]
 fn centred_at(
     e: Event,
     positive: bool,
@@ -177,6 +182,7 @@ fn centred_at(
 }
 
 // The value is 1.0, it is -1.0: the two tests as the law book has them.
+#[tactic(auto, unfolding(crate::specs::Queued::hat_at))]
 fn hat_at(v: View, e: Event, n: u8, up: bool, down: bool, at: usize) -> Event
     ensures { result ≡ hat_at up down v.positive e (plus n) (minus n) at }
 {
@@ -194,6 +200,7 @@ fn hat_at(v: View, e: Event, n: u8, up: bool, down: bool, at: usize) -> Event
 }
 
 // The event that `dpad` queues at a place of its queue. Callers ask only below its count; past it the answer is some event and means nothing.
+#[tactic(auto, unfolding(crate::specs::Queued::queued_at))]
 pub fn queued(v: View, e: Event, at: usize) -> Event
     ensures { result ≡ queued_at v e at }
 {

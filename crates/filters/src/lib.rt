@@ -1,5 +1,7 @@
 // The filters in their order, dpad, jitter, deadzone (gilrs's ev/filter.rs), as decisions on small values: what each sees of the hub is a `View`, gathered before. A
 // dropped event is the event Dropped, as in gilrs.
+#![tactic(auto)]
+
 pub mod dpad;
 
 ghost use Rattle.std.specs.Prelude.{◌≡◌, cond};
@@ -14,6 +16,7 @@ use rules::{Event, EventType, Flags, View, Zoned};
 // ---- jitter
 
 // gilrs's `Jitter`
+#[tactic(auto, unfolding(rules::specs::Filters::jittered_of))]
 pub fn jittered(v: View, e: Event) -> Event
     ensures { result ≡ law.jittered_of v e }
 {
@@ -38,7 +41,7 @@ pub fn jittered(v: View, e: Event) -> Event
 // ---- deadzone
 
 // What the deadzone makes of an event, and which of three its calculation was for an axis event that meets a threshold (W-205).
-#[derive(Drop)]
+#[derive(Clone, Copy)]
 pub struct Met {
     pub zoned: Zoned,
     pub tilt: Tilt,
@@ -83,6 +86,7 @@ fn beside(stands: bool, value: f32) -> f32
 }
 
 // both fell into the dead zone, the partner had sent a value other than 0, and the state still has one
+#[tactic(auto, unfolding(rules::specs::Filters::clears_partner))]
 fn clears_partner(v: View, pair: Pair) -> bool
     ensures { result ≡ law.clears_partner v pair }
 {
@@ -105,6 +109,7 @@ fn own_flag(same: bool, before: bool, sent: bool) -> bool
 }
 
 // an axis: the event with its value after the deadzone, the partner's clearing event, and the flags after
+#[tactic(auto, unfolding(rules::specs::Filters::stick_zoned, rules::specs::Filters::flags_after))]
 fn stick(v: View, e: Event, n: u8, c: u32, pair: Pair) -> Zoned
     ensures { result ≡ law.stick_zoned v e n c pair }
 {
@@ -127,6 +132,7 @@ fn stick(v: View, e: Event, n: u8, c: u32, pair: Pair) -> Zoned
 }
 
 // gilrs's `deadzone`
+#[tactic(auto, unfolding(rules::specs::Filters::deadzoned_of, rules::specs::Tilt::zone_met))]
 pub fn deadzoned(v: View, e: Event) -> Met
     ensures { result ≡ zone_meets v e }
 {
@@ -161,6 +167,7 @@ pub fn deadzoned(v: View, e: Event) -> Met
 }
 
 // A button's value after the deadzone, where its own value and its element's threshold are given; any other event as it is.
+#[tactic(auto, unfolding(crate::specs::Lanes::zoned_value))]
 pub fn zoned_value(own: f32, threshold: f32, e: Event) -> Event
     ensures { result ≡ zoned_value own threshold e }
 {

@@ -1,4 +1,6 @@
 // What a step gathers: places, and what the hub's columns say of them. Each answer is the law book's, for any columns.
+#![tactic(auto)]
+
 ghost use Rattle.std.specs.Prelude.{◌≡◌, Bool, cond, ◌≤◌, get_or};
 ghost use Rattle.rules.specs.Names.{no_name};
 ghost use Rattle.rules.specs.Places.{present_names, named_of};
@@ -15,7 +17,7 @@ const NO_FLAG: usize = 24;
 // ---- a record's element
 
 // The place of a record's code, the kind and the present name of the element there, and whether it has a button record.
-#[derive(Drop)]
+#[derive(Clone, Copy)]
 pub struct Found {
     pub place: usize,
     pub kind: u8,
@@ -24,6 +26,7 @@ pub struct Found {
 }
 
 // The present name of a place: a rename's until the next Connected.
+#[tactic(auto, unfolding(rules::specs::Places::present_names))]
 pub fn present_name<'a>(
     names: &'a [u8; 208],
     renames: &'a [u8; 208],
@@ -41,6 +44,7 @@ pub fn present_name<'a>(
 }
 
 // What stands at a place.
+#[tactic(auto, unfolding(crate::specs::EventPlaces::found_at))]
 fn found_at<'a>(
     kinds: &'a [u8; 208],
     names: &'a [u8; 208],
@@ -61,6 +65,7 @@ fn found_at<'a>(
 }
 
 // What stands at a record's code. A code that has no place is told first, so that no column makes its own test.
+#[tactic(auto, unfolding(crate::specs::EventPlaces::found_at))]
 pub fn find<'a>(
     codes: &'a [u32; 208],
     kinds: &'a [u8; 208],
@@ -83,7 +88,7 @@ pub fn find<'a>(
 // ---- an event's places
 
 // A place, and which records it has.
-#[derive(Drop)]
+#[derive(Clone, Copy)]
 pub struct PlaceMarks {
     pub place: usize,
     pub hasbutton: bool,
@@ -91,6 +96,7 @@ pub struct PlaceMarks {
 }
 
 // Which records a place has.
+#[tactic(auto, unfolding(crate::specs::EventPlaces::place_marks_of))]
 pub fn place_marks<'a>(
     hasbutton: &'a [bool; 208],
     hasaxis: &'a [bool; 208],
@@ -106,6 +112,7 @@ pub fn place_marks<'a>(
 }
 
 // The place of a present name.
+#[tactic(auto, unfolding(rules::specs::Places::present_names))]
 pub fn present_place<'a>(
     names: &'a [u8; 208],
     renames: &'a [u8; 208],
@@ -123,6 +130,7 @@ pub fn present_place<'a>(
 }
 
 // The place of the partner's present code.
+#[tactic(auto, unfolding(rules::specs::Hub::partner_place_of))]
 pub fn partner_place<'a>(
     names: &'a [u8; 208],
     renames: &'a [u8; 208],
@@ -141,6 +149,7 @@ pub fn partner_place<'a>(
 }
 
 // Where an axis's deadzone flag stands.
+#[tactic(auto, unfolding(rules::specs::Hub::flag_place))]
 pub fn flag_place(p: u8, name: u8) -> usize
     ensures { result ≡ flag_place p name }
 {
@@ -156,6 +165,7 @@ pub fn flag_place(p: u8, name: u8) -> usize
 }
 
 // Whether a pad converts at present.
+#[tactic(auto, unfolding(rules::specs::Hub::converts_in))]
 pub fn converts_now<'a>(
     renamed: &'a [bool; 4],
     converts: &'a [bool; 4],
@@ -174,7 +184,7 @@ pub fn converts_now<'a>(
 // ---- what the filters see
 
 // The places that the filters look at for a stick's event: its own and the partner's; and where the two flags stand.
-#[derive(Drop)]
+#[derive(Clone, Copy)]
 pub struct EventPlaces {
     pub own: PlaceMarks,
     pub partner: PlaceMarks,
@@ -186,6 +196,7 @@ pub struct EventPlaces {
 }
 
 // What a step looks at for a stick's event, whose own place is known. No direction is asked for.
+#[tactic(auto, unfolding(crate::specs::EventPlaces::event_places_at, crate::specs::EventPlaces::place_marks_of))]
 pub fn stick_places<'a>(
     codes: &'a [u32; 208],
     kinds: &'a [u8; 208],
@@ -220,6 +231,7 @@ pub fn stick_places<'a>(
 }
 
 // The view, with what stands at the places: the own element and records, the partner's records.
+#[tactic(auto, unfolding(crate::specs::EventPlaces::view_by))]
 pub fn view_of(
     s: EventPlaces,
     element: Element,

@@ -1,11 +1,13 @@
 // The hub in place. What is small goes by value, as the head; each array is lent by itself and changed where it stands, so that no call copies the hub. Which
 // hub of the law book head and arrays stand for is said in specs/Lent.antt. No function: the calls stand in the crates above.
+#![tactic(auto)]
+
 use numbers::Tilt;
 use rules::{Answer, PumpAnswer, RegisterAnswer};
 
 // What of a hub is small: its settings, the counter, what it keeps of each pad and what of it is down, the deadzone flags, and where the queue stands.
 #[repr(C)]
-#[derive(Drop)]
+#[derive(Clone, Copy)]
 pub struct Head {
     pub pressed: f32,
     pub released: f32,
@@ -31,7 +33,7 @@ pub struct Head {
 
 // ---- the head after a call, with its answer
 
-#[derive(Drop)]
+#[derive(Clone, Copy)]
 pub struct PumpedHead {
     pub head: Head,
     pub answer: PumpAnswer,
@@ -39,13 +41,13 @@ pub struct PumpedHead {
     pub tilt: Tilt,
 }
 
-#[derive(Drop)]
+#[derive(Clone, Copy)]
 pub struct AnsweredHead {
     pub head: Head,
     pub answer: Answer,
 }
 
-#[derive(Drop)]
+#[derive(Clone, Copy)]
 pub struct RegisteredHead {
     pub head: Head,
     pub answer: RegisterAnswer,

@@ -1,5 +1,7 @@
 // How registration lays a sheet out: a pad has 52 places in code order, one for each element and, merged in, one for each of the four directions that the sheet does
 // not list; places that are left over repeat the last code, so that codes never fall.
+#![tactic(auto)]
+
 ghost use Rattle.std.specs.Prelude.{◌≡◌, true, cond, not, ◌+◌, ◌*◌, ◌≤◌, eqb, length, get_or};
 ghost use Rattle.rules.specs.Sheets.{element_of, count_of, axis_fits, element_fits, sheet_refusal, sheet_opening, element_size};
 ghost use Rattle.rules.specs.Places.{no_element, axis_element, listed_row, unlisted_row, element_next, direction_next, next_row, one_if, rows_of};
@@ -19,6 +21,7 @@ const DIRECTIONS: u32 = 4;
 // ---- a row
 
 // What the hub keeps of an axis element.
+#[tactic(auto, unfolding(rules::specs::Places::axis_element))]
 fn axis_element(e: SheetElement) -> Element
     requires { axis_fits e ≡ true }
     ensures { result ≡ axis_element e }
@@ -46,6 +49,7 @@ fn no_element() -> Element
 }
 
 // A listed element's row.
+#[tactic(auto, unfolding(rules::specs::Places::listed_row))]
 fn listed_row(e: SheetElement) -> Row
     requires { element_fits e ≡ true }
     ensures { result ≡ listed_row e }
@@ -84,6 +88,7 @@ fn unlisted_row(code: u32) -> Row
 // ---- the next place: i of the sheet's n elements, and d of the four directions, have their places already
 
 // The i-th element's code.
+#[tactic(auto, unfolding(rules::specs::Sheets::element_of, rules::specs::Sheets::element_fields))]
 fn code_of(s: &[u8], i: u32) -> u32
     requires { sheet_opening + element_size * i + element_size ≤ length s.now }
     ensures { result ≡ (element_of s.now i).code }
@@ -92,6 +97,7 @@ fn code_of(s: &[u8], i: u32) -> u32
 }
 
 // Whether the next place is the i-th element's: there is one, and no direction's code lies below its code.
+#[tactic(auto, unfolding(rules::specs::Places::element_next))]
 fn element_next(s: &[u8], n: u32, i: u32, d: u32) -> bool
     requires { length s.now ≡ sheet_opening + element_size * n }
     ensures { result ≡ element_next s.now n i d }
@@ -106,6 +112,7 @@ fn element_next(s: &[u8], n: u32, i: u32, d: u32) -> bool
 }
 
 // Whether the next place's code is the d-th direction's, listed or not.
+#[tactic(auto, unfolding(rules::specs::Places::direction_next))]
 fn direction_next(s: &[u8], n: u32, i: u32, d: u32) -> bool
     requires { length s.now ≡ sheet_opening + element_size * n }
     ensures { result ≡ direction_next s.now n i d }
@@ -120,6 +127,7 @@ fn direction_next(s: &[u8], n: u32, i: u32, d: u32) -> bool
 }
 
 // The next place's row: the element's, else the direction's, else the code before it once more.
+#[tactic(auto, unfolding(rules::specs::Places::next_row))]
 fn next_row(s: &[u8], n: u32, i: u32, d: u32, last: u32) -> Row
     requires { Good s.now n }
     ensures { result ≡ next_row s.now n i d last }
@@ -142,6 +150,7 @@ fn one_if(b: bool) -> u32
 // ---- a pad's 52 places
 
 // The 52 rows of a good sheet: its elements in code order, the unlisted directions among them.
+#[tactic(auto, unfolding(rules::specs::Places::rows_of, rules::specs::Sheets::count_of))]
 pub fn rows_of(s: &[u8]) -> [Row; 52]
     requires { sheet_refusal true s.now ≡ 0 }
     ensures { result ≡ rows_of s.now (count_of s.now) }
@@ -167,6 +176,7 @@ pub fn rows_of(s: &[u8]) -> [Row; 52]
 }
 
 // The same in place: the rows in the lent arrays, from `start` on.
+#[tactic(auto, unfolding(rules::specs::Places::rows_of, rules::specs::Sheets::count_of))]
 pub fn lay_in(
     codes: &mut [u32; 208],
     kinds: &mut [u8; 208],

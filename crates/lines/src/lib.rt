@@ -1,5 +1,7 @@
 // Lines of text on lent slices: each function appends to a buffer at a place and answers the next place. Where the buffer has no room it writes
 // nothing and answers the same place, so nothing is asked of a caller.
+#![tactic(auto)]
+
 ghost use Rattle.std.specs.Prelude.{◌≡◌, ◌+◌, ◌*◌, ◌≤◌, ◌++◌, length, leb};
 ghost use Rattle.rules.specs.Forms.{event_fields};
 ghost use Rattle.lines.specs.Appending.{Appended};
@@ -37,6 +39,7 @@ fn fits(len: usize, at: usize, room: usize) -> bool
 }
 
 // Any bytes.
+#[tactic(auto, unfolding(crate::specs::Appending::laid_over))]
 pub fn append(out: &mut [u8], at: usize, text: &[u8]) -> usize
     ensures { Appended (length text.now) text.now out.old at out.new result }
 {
@@ -53,6 +56,7 @@ pub fn append(out: &mut [u8], at: usize, text: &[u8]) -> usize
 }
 
 // A number in decimal, and the byte behind it.
+#[tactic(auto, unfolding(crate::specs::Text::number_text))]
 pub fn number(out: &mut [u8], at: usize, n: u64, end: u8) -> usize
     ensures { Appended 21 (number_text n end) out.old at out.new result }
 {
@@ -66,6 +70,7 @@ pub fn number(out: &mut [u8], at: usize, n: u64, end: u8) -> usize
 }
 
 // Eight hex digits, and the byte behind them.
+#[tactic(auto, unfolding(crate::specs::Text::hex_text))]
 pub fn hex(out: &mut [u8], at: usize, x: u32, end: u8) -> usize
     ensures { Appended 9 (hex_text x end) out.old at out.new result }
 {
@@ -79,6 +84,7 @@ pub fn hex(out: &mut [u8], at: usize, x: u32, end: u8) -> usize
 }
 
 // The word of an event's kind.
+#[tactic(auto, unfolding(crate::specs::Text::word_of))]
 pub fn word(out: &mut [u8], at: usize, kind: u8) -> usize
     ensures { Appended (length (word_of kind)) (word_of kind) out.old at out.new result }
 {
@@ -107,6 +113,7 @@ pub fn word(out: &mut [u8], at: usize, kind: u8) -> usize
 }
 
 // An event's line.
+#[tactic(auto, unfolding(crate::specs::Text::line_of))]
 pub fn line(out: &mut [u8], at: usize, event: EventForm) -> usize
     ensures { Appended 94 (line_of event) out.old at out.new result }
 {
@@ -139,6 +146,7 @@ pub fn labelled(out: &mut [u8], at: usize, label: &[u8], n: u64, end: u8) -> usi
 }
 
 // "STOPPED, refusal and place"
+#[tactic(auto, unfolding(crate::specs::Text::stopped_line))]
 pub fn stopped(out: &mut [u8], at: usize, refusal: u8, place: u64) -> usize
     ensures { Appended 50 (stopped_line refusal place) out.old at out.new result }
 {
@@ -152,6 +160,7 @@ pub fn stopped(out: &mut [u8], at: usize, refusal: u8, place: u64) -> usize
 // ---- the events of an out buffer
 
 // The event that a buffer begins with.
+#[tactic(auto, unfolding(rules::specs::Forms::event_fields))]
 pub fn fields(s: &[u8]) -> EventForm
     requires { 22 ≤ length s.now }
     ensures { result ≡ event_fields s.now }
@@ -167,6 +176,7 @@ pub fn fields(s: &[u8]) -> EventForm
 }
 
 // The lines of the first events of an out buffer, as many as `count` says and the buffer holds.
+#[tactic(auto, unfolding(crate::specs::Text::held_of, crate::specs::Text::lines_of))]
 pub fn lines(out: &mut [u8], at: usize, events: &[u8], count: usize) -> usize
     ensures { Appended (94 * held_of events.now count) (lines_of events.now (held_of events.now count)) out.old at out.new result }
 {

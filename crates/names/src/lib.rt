@@ -1,5 +1,7 @@
 // The names of document 01's "Numbers" as tests and tables: the sort of a name, the partner and the flag of an axis, the two directions of a hat's
 // axis, and the code that a button name falls back to. Each function answers what its definition in the law book says, for every byte.
+#![tactic(auto)]
+
 ghost use Rattle.std.specs.Prelude.{◌≡◌};
 ghost use Rattle.rules.specs.Names.{is_button, is_axis, names_button, names_axis, is_y, is_hat, partner_of, flag_of};
 ghost use Rattle.rules.specs.Names.{positive_name, negative_name, positive_code, negative_code, to_nec};
@@ -45,6 +47,7 @@ pub const CODE_RIGHT: u32 = 0x00010223;
 // ---- sorts of names
 
 // A button's name, Unknown among them.
+#[tactic(auto, unfolding(rules::specs::Names::is_button))]
 pub fn is_button(name: u8) -> bool
     ensures { result ≡ is_button name }
 {
@@ -52,6 +55,7 @@ pub fn is_button(name: u8) -> bool
 }
 
 // An axis's name, Unknown among them.
+#[tactic(auto, unfolding(rules::specs::Names::is_axis))]
 pub fn is_axis(name: u8) -> bool
     ensures { result ≡ is_axis name }
 {
@@ -59,6 +63,7 @@ pub fn is_axis(name: u8) -> bool
 }
 
 // A button's name that a sheet, a rename list or a query may give.
+#[tactic(auto, unfolding(rules::specs::Names::names_button))]
 pub fn names_button(name: u8) -> bool
     ensures { result ≡ names_button name }
 {
@@ -66,6 +71,7 @@ pub fn names_button(name: u8) -> bool
 }
 
 // An axis's name that a sheet, a rename list or a query may give.
+#[tactic(auto, unfolding(rules::specs::Names::names_axis))]
 pub fn names_axis(name: u8) -> bool
     ensures { result ≡ names_axis name }
 {
@@ -73,6 +79,7 @@ pub fn names_axis(name: u8) -> bool
 }
 
 // "names 34, 37, 40 are negated if the hub says Y reversed"
+#[tactic(auto, unfolding(rules::specs::Names::is_y))]
 pub fn is_y(name: u8) -> bool
     ensures { result ≡ is_y name }
 {
@@ -80,6 +87,7 @@ pub fn is_y(name: u8) -> bool
 }
 
 // A hat's axis.
+#[tactic(auto, unfolding(rules::specs::Names::is_hat))]
 pub fn is_hat(name: u8) -> bool
     ensures { result ≡ is_hat name }
 {
@@ -89,6 +97,7 @@ pub fn is_hat(name: u8) -> bool
 // ---- axes in pairs
 
 // The other axis of the pair (`second_axis`); 0 for none.
+#[tactic(auto, unfolding(rules::specs::Names::partner_of))]
 pub fn partner_of(name: u8) -> u8
     ensures { result ≡ partner_of name }
 {
@@ -114,6 +123,7 @@ pub fn partner_of(name: u8) -> u8
 }
 
 // Which of a pad's six deadzone flags is the axis's (`deadzone_nonzero_axis_idx`); 6 for none.
+#[tactic(auto, unfolding(rules::specs::Names::flag_of))]
 pub fn flag_of(name: u8) -> u8
     ensures { result ≡ flag_of name }
 {
@@ -141,6 +151,7 @@ pub fn flag_of(name: u8) -> u8
 // ---- the two directions of a hat's axis
 
 // The direction that a hat's axis presses above 0: Right, Up.
+#[tactic(auto, unfolding(rules::specs::Names::positive_name))]
 pub fn positive_name(axis: u8) -> u8
     ensures { result ≡ positive_name axis }
 {
@@ -148,6 +159,7 @@ pub fn positive_name(axis: u8) -> u8
 }
 
 // The direction that it presses below 0: Left, Down.
+#[tactic(auto, unfolding(rules::specs::Names::negative_name))]
 pub fn negative_name(axis: u8) -> u8
     ensures { result ≡ negative_name axis }
 {
@@ -155,6 +167,7 @@ pub fn negative_name(axis: u8) -> u8
 }
 
 // The code of that direction, for a hat's axis.
+#[tactic(auto, unfolding(rules::specs::Names::positive_code))]
 pub fn positive_code(axis: u8) -> u32
     ensures { result ≡ positive_code axis }
 {
@@ -162,6 +175,7 @@ pub fn positive_code(axis: u8) -> u32
 }
 
 // The code of the direction below 0.
+#[tactic(auto, unfolding(rules::specs::Names::negative_code))]
 pub fn negative_code(axis: u8) -> u32
     ensures { result ≡ negative_code axis }
 {
@@ -178,6 +192,7 @@ const NECS: [u32; 20] = [
 ];
 
 // The code that a button name falls back to.
+#[tactic(auto, unfolding(rules::specs::Names::to_nec))]
 pub fn to_nec(name: u8) -> u32
     ensures { result ≡ to_nec name }
 {

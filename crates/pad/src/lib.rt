@@ -1,5 +1,7 @@
 // A pad's 52 places: where a code or a name stands, whether a pad converts, and the columns read and marked at any index. Every function takes any
 // column and any number, and answers what its definition in the law book says.
+#![tactic(auto)]
+
 ghost use Rattle.std.specs.Prelude.{◌≡◌, true, false, ◌+◌, ◌/◌, ◌≤◌, ◌<◌, get_or, set};
 ghost use Rattle.rules.specs.Names.{no_name, places_per_pad, nowhere};
 ghost use Rattle.rules.specs.Zones.{middle_zone};
@@ -128,6 +130,7 @@ fn stands_early(names: &[u8; 208], start: usize, name: u8) -> bool
 }
 
 // The place of a name: the first of the pad's that has it, or `NOWHERE`. An axis most often stands behind sixteen others.
+#[tactic(auto, unfolding(rules::specs::Places::named_of))]
 pub fn named(names: &[u8; 208], pad: u8, name: u8) -> usize
     ensures { Named names.now pad name result }
 {
@@ -304,6 +307,7 @@ pub fn clear_flags(flags: &mut [bool; 24], start: usize, n: usize)
 
 // ---- "A pad converts if hats is 15, or hats is 0 and no direction code is named and no element is named DPadRight"
 
+#[tactic(auto, unfolding(rules::specs::Places::code_named))]
 fn code_named<'a>(codes: &'a [u32; 208], names: &'a [u8; 208], pad: u8, code: u32) -> bool
     ensures { result ≡ code_named codes.now names.now pad code }
 {
@@ -311,6 +315,7 @@ fn code_named<'a>(codes: &'a [u32; 208], names: &'a [u8; 208], pad: u8, code: u3
     name_at(names, place) != NO_NAME
 }
 
+#[tactic(auto, unfolding(rules::specs::Places::direction_named))]
 fn direction_named<'a>(codes: &'a [u32; 208], names: &'a [u8; 208], pad: u8) -> bool
     ensures { result ≡ direction_named codes.now names.now pad }
 {
@@ -327,6 +332,7 @@ fn direction_named<'a>(codes: &'a [u32; 208], names: &'a [u8; 208], pad: u8) -> 
 }
 
 // Whether a pad's hats turn into directions: hats say all four, or say none and no direction is named.
+#[tactic(auto, unfolding(rules::specs::Places::converts_of))]
 pub fn converts<'a>(hats: u8, codes: &'a [u32; 208], names: &'a [u8; 208], pad: u8) -> bool
     ensures { result ≡ converts_of hats codes.now names.now pad }
 {

@@ -1,5 +1,7 @@
 // Document 01's padlog: "reads standard input, one sheet and then one batch", and prints a line per event and a last line. All its work is `log`, on
 // lent slices, which holds the hub's arrays and lends them to each call; `main` reads and writes.
+#![tactic(auto)]
+
 ghost use Rattle.std.specs.Prelude.{◌≡◌, ◌+◌, ◌^◌, ◌≤◌, ◌<◌, length};
 ghost use Rattle.hub.specs.Lent.{listed, columns, hub_of};
 ghost use Rattle.lines.specs.Appending.{Appended};
@@ -23,7 +25,7 @@ const DRAINED: u8 = 1;
 const STOPPED: u8 = 2;
 
 // What a pump call answered, in numbers.
-#[derive(Drop)]
+#[derive(Clone, Copy)]
 pub struct Tally {
     pub ends: u8,
     pub refusal: u8,
@@ -68,6 +70,7 @@ fn tally_of(answer: PumpAnswer) -> Tally
 }
 
 // Where the sheet ends: "count, version, ..", and the rest is the batch.
+#[tactic(auto, unfolding(crate::specs::Log::sheet_end))]
 fn sheet_end(input: &[u8]) -> usize
     ensures { (result ≡ sheet_end input.now) × (result ≤ length input.now) }
 {
@@ -80,6 +83,7 @@ fn sheet_end(input: &[u8]) -> usize
 }
 
 // "The last line is DRAINED and all steps, or STOPPED, refusal and place"
+#[tactic(auto, unfolding(crate::specs::Log::last_line, lines::specs::Text::drained_line))]
 fn last(text: &mut [u8], at: usize, t: Tally, steps: usize) -> usize
     requires { (at + 50 ≤ length text.old) × (steps + t.steps < 2 ^ 32) }
     ensures { Appended 50 (last_line t steps) text.old at text.new result }
@@ -91,6 +95,7 @@ fn last(text: &mut [u8], at: usize, t: Tally, steps: usize) -> usize
 }
 
 // The batch is pumped until it is drained or refused, and each call's events are printed behind those before.
+#[tactic(auto, unfolding(crate::specs::Log::pump_all))]
 fn pump_all<'s>(
     head: Head,
     codes: &'s [u32; 208],

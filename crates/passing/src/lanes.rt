@@ -15,6 +15,7 @@ pub const HAT_LANE: u8 = 2;
 pub const STICK_LANE: u8 = 3;
 
 // Which filters look at an event: none, or those of a button's value, of a hat that turns, of a stick.
+#[tactic(auto, unfolding(filters::specs::Lanes::lane_of))]
 pub fn lane_of<'a>(
     kinds: &'a [u8; 208],
     renamed: &'a [bool; 4],

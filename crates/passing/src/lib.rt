@@ -1,5 +1,7 @@
 // A turn's gates: the marks of a record that joins or leaves, and what a taken event's passing changes, behind one test each, so that only what is asked for is
 // read. Each answer is the law book's, as if all had been gathered. The gates stand inside functions that are lent the arrays, not in the pump's loop.
+#![tactic(auto)]
+
 pub mod joining;
 mod lanes;
 
@@ -48,7 +50,7 @@ fn push_next(
 }
 
 // The event that is handed on, or Dropped; how many wait behind it; and the place of its code, where it is not dropped.
-#[derive(Drop)]
+#[derive(Clone, Copy)]
 pub struct Served {
     pub event: Event,
     pub waiting: u8,
@@ -56,7 +58,7 @@ pub struct Served {
 }
 
 // A served event, and which of three the deadzone calculation was for the call's last axis event that met a threshold (W-205).
-#[derive(Drop)]
+#[derive(Clone, Copy)]
 pub struct Passed {
     pub served: Served,
     pub tilt: Tilt,
@@ -175,6 +177,7 @@ fn turn_hat<'a>(
 }
 
 // A stick's value through jitter and deadzone: the flags are set, and the event that clears the partner is pushed.
+#[tactic(auto, unfolding(gather::specs::EventPlaces::event_places_at, gather::specs::EventPlaces::place_marks_of))]
 fn pass_stick<'a>(
     codes: &'a [u32; 208],
     kinds: &'a [u8; 208],

@@ -2,6 +2,8 @@
 // copies the hub. A turn of the loop takes an event, makes a record's marks, and serves the event, each in one call that is lent the arrays; a kept event is
 // settled in the state and written. The contract is the equation of the pump that takes the hub by value, at the hub that head and arrays stand for, and one for
 // the report beside each answer.
+#![tactic(auto)]
+
 ghost use Rattle.std.specs.Prelude.{◌≡◌};
 ghost use Rattle.rules.specs.Pump.{pump_of};
 ghost use Rattle.rules.specs.Tilt.{pump_tilt};

@@ -1,1 +1,2 @@
 // No function: the laws stand in specs/.
+#![tactic(auto)]

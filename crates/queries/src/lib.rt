@@ -1,6 +1,8 @@
 // The queries of document 01, of W-212 and W-213, on a hub that is lent: each takes the head and the arrays that it reads, and changes nothing. "Query: 6, 16"; "A query by a code
 // not known reads false or 0.0". Each answers what its definition in the law book says, at the hub that head and arrays stand for, for any numbers and whatever
 // the arrays hold that it is not lent.
+#![tactic(auto)]
+
 mod reading;
 
 ghost use Rattle.std.specs.Prelude.{◌≡◌, Bool, true, false, List, ℕ, ◌≤◌, Float};
@@ -21,6 +23,7 @@ use rules::{
 // ---- pressed
 
 // gilrs's `Gamepad::is_pressed` by a code: false for one that is not known. Refuses 6.
+#[tactic(auto, unfolding(rules::specs::Queries::pressed_by_code, rules::specs::Hub::pressed_at))]
 pub fn is_pressed_by_code(
     head: Head,
     codes: &[u32; 208],
@@ -42,6 +45,7 @@ pub fn is_pressed_by_code(
 }
 
 // "`is_pressed` by a name that no element has falls back to `to_nec`"
+#[tactic(auto, unfolding(rules::specs::Queries::button_place_of))]
 fn button_place<'a>(
     codes: &'a [u32; 208],
     names: &'a [u8; 208],
@@ -61,6 +65,7 @@ fn button_place<'a>(
 }
 
 // The same by a button's name, or by `to_nec` where no element has it. Refuses 6, 16.
+#[tactic(auto, unfolding(rules::specs::Queries::pressed_by_name, rules::specs::Queries::button_place_of, rules::specs::Hub::pressed_at))]
 pub fn is_pressed<'s>(
     head: Head,
     codes: &'s [u32; 208],
@@ -86,6 +91,7 @@ pub fn is_pressed<'s>(
 // ---- value
 
 // gilrs's `Gamepad::value` by a code: the axis record's, else the button record's, else 0.0. Refuses 6.
+#[tactic(auto, unfolding(rules::specs::Queries::value_by_code, rules::specs::Hub::value_at))]
 pub fn value_by_code(
     head: Head,
     codes: &[u32; 208],
@@ -108,6 +114,7 @@ pub fn value_by_code(
 }
 
 // The same by an axis's name. Refuses 6, 16.
+#[tactic(auto, unfolding(rules::specs::Queries::value_by_name, rules::specs::Hub::value_at))]
 pub fn value<'s>(
     head: Head,
     names: &'s [u8; 208],
@@ -133,6 +140,7 @@ pub fn value<'s>(
 // ---- records
 
 // The button record of a code, or Absent. Refuses 6.
+#[tactic(auto, unfolding(rules::specs::Queries::button_by_code))]
 pub fn button_data_by_code(
     head: Head,
     codes: &[u32; 208],
@@ -154,6 +162,7 @@ pub fn button_data_by_code(
 }
 
 // The button record of a name, or Absent. Refuses 6, 16.
+#[tactic(auto, unfolding(rules::specs::Queries::button_by_name))]
 pub fn button_data<'s>(
     head: Head,
     names: &'s [u8; 208],
@@ -176,6 +185,7 @@ pub fn button_data<'s>(
 }
 
 // The axis record of a code, or Absent. Refuses 6.
+#[tactic(auto, unfolding(rules::specs::Queries::axis_by_code))]
 pub fn axis_data_by_code(
     head: Head,
     codes: &[u32; 208],
@@ -196,6 +206,7 @@ pub fn axis_data_by_code(
 }
 
 // The axis record of a name, or Absent. Refuses 6, 16.
+#[tactic(auto, unfolding(rules::specs::Queries::axis_by_name))]
 pub fn axis_data<'s>(
     head: Head,
     names: &'s [u8; 208],
@@ -219,6 +230,7 @@ pub fn axis_data<'s>(
 // ---- the sheet: thresholds, names and codes
 
 // "Deadzone threshold. Axis elements only": gilrs's `Gamepad::deadzone`. Refuses 6.
+#[tactic(auto, unfolding(rules::specs::Queries::threshold_by_code))]
 pub fn deadzone_threshold(
     head: Head,
     codes: &[u32; 208],
@@ -241,6 +253,7 @@ pub fn deadzone_threshold(
 }
 
 // gilrs's `Gamepad::axis_or_btn_name`: the present name of a code, or Absent. Refuses 6.
+#[tactic(auto, unfolding(rules::specs::Queries::name_by_code))]
 pub fn axis_or_btn_name<'s>(
     head: Head,
     codes: &[u32; 208],
@@ -261,6 +274,7 @@ pub fn axis_or_btn_name<'s>(
 }
 
 // gilrs's `button_code` and `axis_code`, the name's byte says which: the code that has a name at present, or Absent. Refuses 6, 16.
+#[tactic(auto, unfolding(rules::specs::Queries::code_by_name))]
 pub fn code_of_name<'s>(
     head: Head,
     codes: &[u32; 208],
@@ -283,6 +297,7 @@ pub fn code_of_name<'s>(
 // ---- what is down (W-213)
 
 // How many button records of a pad are pressed, and whether an axis element's is. Refuses 6.
+#[tactic(auto, unfolding(rules::specs::Queries::down_of))]
 pub fn down(head: Head, p: u8) -> DownAnswer
     ensures { (s : Listed) (t : Columns) → result ≡ down_of (hub_of head s t) p }
 {
@@ -292,6 +307,7 @@ pub fn down(head: Head, p: u8) -> DownAnswer
 }
 
 // The lowest code of a pad whose button record is pressed, or Absent. Refuses 6.
+#[tactic(auto, unfolding(rules::specs::Queries::lowest_pressed))]
 pub fn lowest_pressed(head: Head, codes: &[u32; 208], p: u8) -> NumberAnswer
     ensures { (kinds names renames : List ℕ) (t : Columns) → result ≡ lowest_pressed (hub_of head (listed codes.now kinds names renames) t) p }
 {
@@ -304,6 +320,7 @@ pub fn lowest_pressed(head: Head, codes: &[u32; 208], p: u8) -> NumberAnswer
 // ---- the head
 
 // "connected but from a taken Disconnected record to the next Connected"
+#[tactic(auto, unfolding(rules::specs::Queries::connected_of))]
 pub fn is_connected(head: Head, p: u8) -> TruthAnswer
     ensures { (s : Listed) (t : Columns) → result ≡ connected_of (hub_of head s t) p }
 {
@@ -312,6 +329,7 @@ pub fn is_connected(head: Head, p: u8) -> TruthAnswer
 }
 
 // The present hats: a rename's until the next Connected.
+#[tactic(auto, unfolding(rules::specs::Hub::hats_now))]
 pub fn hats_now(head: Head, p: u8) -> u8
     ensures { (s : Listed) (t : Columns) → result ≡ hats_now (hub_of head s t) p }
 {
@@ -322,6 +340,7 @@ pub fn hats_now(head: Head, p: u8) -> u8
 }
 
 // W-212: whether one to three hat directions are mapped, as an archived sheet may have them. Refuses 6.
+#[tactic(auto, unfolding(rules::specs::Queries::old_of))]
 pub fn is_old(head: Head, p: u8) -> TruthAnswer
     ensures { (s : Listed) (t : Columns) → result ≡ old_of (hub_of head s t) p }
 {

@@ -1,5 +1,7 @@
 // An event put into the queue where it stands. What is left of the lent arrays is one equation on the queue; the records, whose columns stand in the same
 // arrays, are as they were.
+#![tactic(auto)]
+
 ghost use Rattle.std.specs.Prelude.{[], ◌∷◌};
 ghost use Rattle.queueing.specs.Queued.{Pushed};
 

@@ -1,5 +1,7 @@
 // The refusals of document 01 by number: the first that holds in its order, 0 for none. Each function equals its definition in the law book for every
 // input.
+#![tactic(auto)]
+
 ghost use Rattle.std.specs.Prelude.{◌≡◌, true, cond, not, ◌&&◌, ◌||◌, eqb, ltb};
 ghost use Rattle.rules.specs.Refusals.{in_unit, thresholds_refusal, is_registered, value_fits, time_fits, element_refusal, fields_refusal, record_refusal};
 ghost use Rattle.rules.specs.Refusals.{code_refusal, form_refusal, insert_refusal, pump_refusal, repeat_refusal};
@@ -38,6 +40,7 @@ pub fn first(a: u8, b: u8) -> u8
 
 // ---- 1
 
+#[tactic(auto, unfolding(rules::specs::Refusals::in_unit))]
 fn in_unit(x: f32) -> bool
     ensures { result ≡ in_unit x }
 {
@@ -45,6 +48,7 @@ fn in_unit(x: f32) -> bool
 }
 
 // 1: thresholds of `new` that do not lie in 0..1 with released below pressed.
+#[tactic(auto, unfolding(rules::specs::Refusals::thresholds_refusal))]
 pub fn thresholds_refusal(pressed: f32, released: f32) -> u8
     ensures { result ≡ thresholds_refusal pressed released }
 {
@@ -61,6 +65,7 @@ pub fn thresholds_refusal(pressed: f32, released: f32) -> u8
 // ---- 6
 
 // Whether a pad is registered.
+#[tactic(auto, unfolding(rules::specs::Refusals::is_registered))]
 pub fn is_registered(pads: u8, p: u8) -> bool
     ensures { result ≡ is_registered pads p }
 {
@@ -70,6 +75,7 @@ pub fn is_registered(pads: u8, p: u8) -> bool
 // ---- 11 and 12
 
 // Whether an event's value lies in -1..1, by its bits.
+#[tactic(auto, unfolding(rules::specs::Refusals::value_fits))]
 pub fn value_fits(bits: u32) -> bool
     ensures { result ≡ value_fits bits }
 {
@@ -77,6 +83,7 @@ pub fn value_fits(bits: u32) -> bool
 }
 
 // Whether a time is below 2^62.
+#[tactic(auto, unfolding(rules::specs::Refusals::time_fits))]
 pub fn time_fits(time: u64) -> bool
     ensures { result ≡ time_fits time }
 {
@@ -92,6 +99,7 @@ fn spoken(kind: u8) -> u8
     choices::chosen(kind == KIND_AXIS, ELEMENT_AXIS, ELEMENT_BUTTON)
 }
 
+#[tactic(auto, unfolding(rules::specs::Refusals::element_refusal))]
 fn element_refusal(recordkind: u8, kind: u8) -> u8
     ensures { result ≡ element_refusal recordkind kind }
 {
@@ -107,6 +115,7 @@ fn element_refusal(recordkind: u8, kind: u8) -> u8
 }
 
 // The refusal of a record that is well formed: 6, 9, 10, 11, 12.
+#[tactic(auto, unfolding(rules::specs::Refusals::fields_refusal))]
 pub fn fields_refusal(raw: RawRecord, pads: u8, kind: u8) -> u8
     ensures { result ≡ fields_refusal raw pads kind }
 {
@@ -130,6 +139,7 @@ fn element_fits(recordkind: u8, kind: u8) -> bool
 }
 
 // Whether a record is well formed and not refused, as most are: one answer of all tests, none of which ends the others, in place of the first number of six.
+#[tactic(auto, unfolding(rules::specs::Refusals::element_refusal, rules::specs::Refusals::record_refusal, rules::specs::Refusals::fields_refusal, rules::specs::Refusals::is_registered))]
 fn record_fits(l: NextRecord, pads: u8, kind: u8) -> bool
     ensures { result ≡ true → record_refusal l pads kind ≡ 0 }
 {
@@ -143,6 +153,7 @@ fn record_fits(l: NextRecord, pads: u8, kind: u8) -> bool
 }
 
 // The refusal of the record that a step looks at: 8, then those of its fields.
+#[tactic(auto, unfolding(rules::specs::Refusals::record_refusal))]
 pub fn record_refusal(l: NextRecord, pads: u8, kind: u8) -> u8
     ensures { result ≡ record_refusal l pads kind }
 {
@@ -155,6 +166,7 @@ pub fn record_refusal(l: NextRecord, pads: u8, kind: u8) -> u8
 
 // ---- events: 8 by the reader, then 6, 9, 11, 12, and 13 for an insert
 
+#[tactic(auto, unfolding(rules::specs::Refusals::code_refusal))]
 fn code_refusal(kind: u8, place: usize) -> u8
     ensures { result ≡ code_refusal kind place }
 {
@@ -162,6 +174,7 @@ fn code_refusal(kind: u8, place: usize) -> u8
 }
 
 // The refusal of an event that `update` is given: 6, 9, 11, 12.
+#[tactic(auto, unfolding(rules::specs::Refusals::form_refusal))]
 pub fn form_refusal(f: EventForm, pads: u8, place: usize) -> u8
     ensures { result ≡ form_refusal f pads place }
 {
@@ -178,6 +191,7 @@ pub fn form_refusal(f: EventForm, pads: u8, place: usize) -> u8
 }
 
 // The same for `insert_event`: also 13, where 16 or more wait.
+#[tactic(auto, unfolding(rules::specs::Refusals::insert_refusal))]
 pub fn insert_refusal(f: EventForm, pads: u8, place: usize, waiting: u8) -> u8
     ensures { result ≡ insert_refusal f pads place waiting }
 {
@@ -190,6 +204,7 @@ pub fn insert_refusal(f: EventForm, pads: u8, place: usize, waiting: u8) -> u8
 // ---- the pump: 14, then 8 for a place past the end
 
 // The refusal of a whole pump call: 14, a buffer is too long; 8, the place lies past the batch.
+#[tactic(auto, unfolding(rules::specs::Refusals::pump_refusal))]
 pub fn pump_refusal(batch: usize, out: usize, place: usize) -> u8
     ensures { result ≡ pump_refusal batch out place }
 {
@@ -203,6 +218,7 @@ pub fn pump_refusal(batch: usize, out: usize, place: usize) -> u8
 // ---- repeat: 15, 12
 
 // The refusal of `repeat`: 15, then 12.
+#[tactic(auto, unfolding(rules::specs::Refusals::repeat_refusal))]
 pub fn repeat_refusal(after: u64, every: u64, now: u64) -> u8
     ensures { result ≡ repeat_refusal after every now }
 {
@@ -216,6 +232,7 @@ pub fn repeat_refusal(after: u64, every: u64, now: u64) -> u8
 // ---- registration: 29
 
 // W-212: whether one to three directions are mapped, the low four bits being 1 to 14.
+#[tactic(auto, unfolding(rules::specs::Sheets::partial_of))]
 pub fn partial_hats(hats: u8) -> bool
     ensures { result ≡ partial_of hats }
 {
@@ -253,6 +270,7 @@ fn named_refusal(pads: u8, p: u8, sort: bool) -> u8
 }
 
 // The refusal of a query by a button's name: 6, 16.
+#[tactic(auto, unfolding(rules::specs::Refusals::button_query_refusal))]
 pub fn button_query_refusal(pads: u8, p: u8, name: u8) -> u8
     ensures { result ≡ button_query_refusal pads p name }
 {
@@ -260,6 +278,7 @@ pub fn button_query_refusal(pads: u8, p: u8, name: u8) -> u8
 }
 
 // The refusal of a query by an axis's name: 6, 16.
+#[tactic(auto, unfolding(rules::specs::Refusals::axis_query_refusal))]
 pub fn axis_query_refusal(pads: u8, p: u8, name: u8) -> u8
     ensures { result ≡ axis_query_refusal pads p name }
 {
@@ -267,6 +286,7 @@ pub fn axis_query_refusal(pads: u8, p: u8, name: u8) -> u8
 }
 
 // The refusal of a query by a name of either kind: 6, 16.
+#[tactic(auto, unfolding(rules::specs::Refusals::name_query_refusal))]
 pub fn name_query_refusal(pads: u8, p: u8, name: u8) -> u8
     ensures { result ≡ name_query_refusal pads p name }
 {

@@ -1,4 +1,6 @@
 // Repeat: gilrs's `Repeat`, with the clock as input. Whether a record is due, the event that it gives, and the scan of a pad's records for the first due one.
+#![tactic(auto)]
+
 ghost use Rattle.std.specs.Prelude.{◌≡◌, true, ◌≤◌, length};
 ghost use Rattle.rules.specs.Repeat.{wait_of, due_of, repeated_of};
 ghost use Rattle.repeat.specs.Run.{first_of};
@@ -6,6 +8,7 @@ ghost use Rattle.repeat.specs.Run.{first_of};
 use rules::{ButtonData, Event, EventType, PLACES_PER_PAD};
 
 // `after` for the first repeat, `every` from then on
+#[tactic(auto, unfolding(rules::specs::Repeat::wait_of))]
 fn wait(b: ButtonData, after: u64, every: u64) -> u64
     ensures { result ≡ wait_of b after every }
 {
@@ -13,6 +16,7 @@ fn wait(b: ButtonData, after: u64, every: u64) -> u64
 }
 
 // "A stamp later than now is not due"
+#[tactic(auto, unfolding(rules::specs::Repeat::due_of))]
 pub fn due(b: ButtonData, known: bool, after: u64, every: u64, clock: u64) -> bool
     ensures { result ≡ due_of known b after every clock }
 {
@@ -30,6 +34,7 @@ pub fn due(b: ButtonData, known: bool, after: u64, every: u64, clock: u64) -> bo
 }
 
 // "The time is its stamp plus after or every"; "The name is the code's present button name, else Unknown"
+#[tactic(auto, unfolding(rules::specs::Repeat::repeated_of))]
 pub fn repeated(
     pad: u8,
     name: u8,

@@ -1,5 +1,7 @@
 // Plays the oracle's scenario form (`oracle/README.md`) on the hub and prints what the oracle prints. It holds the hub's arrays and lends them to each operation,
 // and reads one operation at a time, so its memory is bounded whatever the input's length.
+#![tactic(auto)]
+
 ghost use Rattle.std.specs.Prelude.{◌≡◌, ◌≤◌, length};
 
 use columns::{Marks, QueueBytes, QueueCodes, Times, Values};
@@ -16,7 +18,7 @@ const ENOUGH: usize = 131072;
 // ---- reading and writing
 
 // Whether one more operation was read, its opcode, and how long its payload is.
-#[derive(Drop)]
+#[derive(Clone, Copy)]
 struct Operation {
     more: bool,
     opcode: u8,

@@ -1,4 +1,6 @@
 // What the operations of the oracle's scenario form (`oracle/README.md`) answer. The lines that say so are `replay_lines`'.
+#![tactic(auto)]
+
 ghost use Rattle.std.specs.Prelude.{◌≡◌};
 
 use hub::Head;
@@ -11,7 +13,7 @@ use rules::{
 // ---- the answers
 
 // Of an operation that leaves the hub as it is: `Nothing` of what is none.
-#[derive(Drop)]
+#[derive(Clone, Copy)]
 pub enum Asked {
     Truth(TruthAnswer),
     Value(ValueAnswer),
@@ -31,7 +33,7 @@ pub enum Asked {
 }
 
 // Of one that changes it; `Reported` of a pump that tells its report too.
-#[derive(Drop)]
+#[derive(Clone, Copy)]
 pub enum Changed {
     Begun(Answer),
     Registered(RegisterAnswer),
@@ -45,7 +47,7 @@ pub enum Changed {
 }
 
 // The head after an operation that changes the hub, and its answer.
-#[derive(Drop)]
+#[derive(Clone, Copy)]
 pub struct Told {
     pub head: Head,
     pub answer: Changed,

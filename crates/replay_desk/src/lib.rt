@@ -2,6 +2,8 @@
 // rename. The head goes in and comes back by value, the arrays are changed in place. Proved: answer and hub are what the operation's row of the table says
 // (specs/SetUp.antt), at the hub that head and arrays stand for, for every opcode and payload. By the calls' own contracts: a function here only picks the call
 // and reads its numbers off the payload.
+#![tactic(auto)]
+
 ghost use Rattle.std.specs.Prelude.{◌≡◌, Bool, List, ℕ, Float};
 ghost use Rattle.hub.specs.Lent.{listed, columns, hub_of};
 ghost use Rattle.replay_answers.specs.Told.{told};
@@ -36,6 +38,7 @@ const UPDATES: u8 = 4;
 // ---- new
 
 // A fresh hub, whatever the arrays held.
+#[tactic(auto, unfolding(crate::specs::SetUp::begun_of))]
 fn begin(
     head: Head,
     codes: &mut [u32; 208],
@@ -88,6 +91,7 @@ fn begin(
 // ---- by a sheet
 
 // A new sheet, or an archived one.
+#[tactic(auto, unfolding(crate::specs::SetUp::registered_of))]
 fn register(
     archived: bool,
     head: Head,
@@ -116,6 +120,7 @@ fn register(
 }
 
 // Register or register_archived.
+#[tactic(auto, unfolding(crate::specs::SetUp::by_sheet))]
 fn by_sheet(
     head: Head,
     codes: &mut [u32; 208],
@@ -151,6 +156,7 @@ fn by_sheet(
 // ---- rename
 
 // Pad 1, the names.
+#[tactic(auto, unfolding(crate::specs::SetUp::renamed_of))]
 fn rename<'s>(
     head: Head,
     codes: &'s [u32; 208],
@@ -176,6 +182,7 @@ fn rename<'s>(
 // ---- any operation that sets a desk up
 
 // Whether an opcode is new, register, register_archived or rename.
+#[tactic(auto, unfolding(crate::specs::SetUp::sets_up))]
 pub fn sets_up(opcode: u8) -> bool
     ensures { result ≡ sets_up opcode }
 {
@@ -192,6 +199,7 @@ pub fn sets_up(opcode: u8) -> bool
 }
 
 // Plays one of them.
+#[tactic(auto, unfolding(crate::specs::SetUp::set_up_of))]
 pub fn set_up(
     head: Head,
     codes: &mut [u32; 208],

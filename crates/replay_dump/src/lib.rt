@@ -1,5 +1,7 @@
 // The dump of the oracle's scenario form (`oracle/README.md`): everything that the pads' state holds, of a hub that is lent. Each function appends to a text at
 // a place and answers the next place; it prints the pieces of its definition in `specs/Dump.antt`, each where the text has room for it, whatever the hub holds.
+#![tactic(auto)]
+
 ghost use Rattle.std.specs.Prelude.{◌≡◌, List, ℕ, ◌+◌, ◌*◌, ◌<◌};
 ghost use Rattle.rules.specs.Names.{pad_limit, places_per_pad};
 ghost use Rattle.columns.specs.Columns.{buttons_of, axes_of};
@@ -21,6 +23,7 @@ fn place(p: u8, i: usize) -> usize
     PLACES_PER_PAD * p as usize + i
 }
 
+#[tactic(auto, unfolding(replay_words::specs::Pieces::laid_all))]
 fn button(text: &mut [u8], at: usize, known: bool, code: u32, b: ButtonData) -> usize
     ensures { written text.new result ≡ laid_all (law.button_line known code b) (written text.old at) }
 {
@@ -32,6 +35,7 @@ fn button(text: &mut [u8], at: usize, known: bool, code: u32, b: ButtonData) -> 
     replay_words::button_words(text, words, b)
 }
 
+#[tactic(auto, unfolding(replay_words::specs::Pieces::laid_all))]
 fn stick(text: &mut [u8], at: usize, known: bool, code: u32, a: AxisData) -> usize
     ensures { written text.new result ≡ laid_all (law.stick_line known code a) (written text.old at) }
 {
@@ -44,6 +48,7 @@ fn stick(text: &mut [u8], at: usize, known: bool, code: u32, a: AxisData) -> usi
 }
 
 // A pad's button records, codes rising.
+#[tactic(auto, unfolding(crate::specs::Dump::up_to, replay_words::specs::Pieces::laid_all))]
 fn buttons(
     codes: &[u32; 208],
     hasbutton: &[bool; 208],
@@ -78,6 +83,7 @@ fn buttons(
 }
 
 // A pad's axis records, codes rising.
+#[tactic(auto, unfolding(crate::specs::Dump::up_to, replay_words::specs::Pieces::laid_all))]
 fn sticks(
     codes: &[u32; 208],
     hasaxis: &[bool; 208],
@@ -116,6 +122,7 @@ fn digit(b: bool) -> u8
 }
 
 // The deadzone flags: DPadX, DPadY, LeftStickX, LeftStickY, RightStickX, RightStickY.
+#[tactic(auto, unfolding(crate::specs::Dump::up_to, replay_words::specs::Pieces::laid_all))]
 fn flags(flags: &[bool; 24], text: &mut [u8], at: usize, p: u8) -> usize
     ensures { written text.new result ≡ laid_all (law.flags_line flags.now p) (written text.old at) }
 {
@@ -130,6 +137,7 @@ fn flags(flags: &[bool; 24], text: &mut [u8], at: usize, p: u8) -> usize
 }
 
 // A pad's first line: its number, whether it is connected, and its hats.
+#[tactic(auto, unfolding(crate::specs::Dump::first_line))]
 fn first_line(head: Head, text: &mut [u8], at: usize, p: u8) -> usize
     ensures { (s : Listed) (t : Columns) →
         written text.new result ≡ laid_all (law.first_line (hub_of head s t) p) (written text.old at) }
@@ -141,6 +149,7 @@ fn first_line(head: Head, text: &mut [u8], at: usize, p: u8) -> usize
 }
 
 // A pad's lines; none for one that is not registered.
+#[tactic(auto, unfolding(crate::specs::Dump::pad_lines, replay_words::specs::Pieces::laid_all))]
 fn pad_lines(
     head: Head,
     codes: &[u32; 208],
@@ -176,6 +185,7 @@ fn last(text: &mut [u8], at: usize, counter: u64, waiting: u8) -> usize
 }
 
 // The lines of all that the pads' state holds.
+#[tactic(auto, unfolding(crate::specs::Dump::up_to, replay_words::specs::Pieces::laid_all, crate::specs::Dump::dump_pieces))]
 pub fn dump(
     head: Head,
     codes: &[u32; 208],

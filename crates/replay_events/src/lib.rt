@@ -2,6 +2,8 @@
 // update, insert, and the counter. The head goes in and comes back by value, the arrays are changed in place. Proved: answer, hub and every byte of the out
 // buffer are what the operation's row of the table says (specs/Sent.antt), at the hub that head and arrays stand for, for every opcode and payload. By the
 // calls' own contracts: a function here only picks the call and reads its numbers off the payload.
+#![tactic(auto)]
+
 ghost use Rattle.std.specs.Prelude.{◌≡◌, Bool, List, ℕ};
 ghost use Rattle.hub.specs.Lent.{Listed, Columns, listed, columns, hub_of};
 ghost use Rattle.rules.specs.Calls.{update_of, insert_of};
@@ -54,6 +56,7 @@ fn said(reports: bool, answer: PumpAnswer, tilt: Tilt) -> Changed
 }
 
 // An out size over the longest buffer is refused whatever it is, so the longest one stands for it.
+#[tactic(auto, unfolding(crate::specs::Sent::pumped_of))]
 fn pump<'s>(
     head: Head,
     codes: &'s [u32; 208],
@@ -157,6 +160,7 @@ fn insert(
     replay_answers::tell(h, Changed::Inserted(answer))
 }
 
+#[tactic(auto, unfolding(crate::specs::Sent::counted_of))]
 fn count(head: Head, opcode: u8) -> Told
     ensures { (s : Listed) (t : Columns) → told result s t ≡ counted_of (hub_of head s t) opcode }
 {
@@ -174,6 +178,7 @@ fn count(head: Head, opcode: u8) -> Told
 // ---- any operation that sends events or counts
 
 // Whether an opcode is a pump, an update, an insert, or a change of the counter.
+#[tactic(auto, unfolding(crate::specs::Sent::sends))]
 pub fn sends(opcode: u8) -> bool
     ensures { result ≡ sends opcode }
 {
@@ -190,6 +195,7 @@ pub fn sends(opcode: u8) -> bool
 }
 
 // Plays one of them.
+#[tactic(auto, unfolding(crate::specs::Sent::sent_of))]
 pub fn send<'s>(
     head: Head,
     codes: &'s [u32; 208],

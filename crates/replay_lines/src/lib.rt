@@ -1,5 +1,7 @@
 // The lines of what the operations of the oracle's scenario form (`oracle/README.md`) answer. Each function appends to a buffer at a place and answers the next
 // place; it prints the pieces of its definition in `specs/Lines.antt`, each where the buffer has room for it, for every answer and every buffer.
+#![tactic(auto)]
+
 ghost use Rattle.std.specs.Prelude.{◌≡◌, [], ◌∷◌};
 ghost use Rattle.rules.specs.Answers.{bit};
 ghost use Rattle.lines.specs.Letters.{newline};
@@ -249,6 +251,7 @@ fn pair(text: &mut [u8], at: usize, tilted: Tilted) -> usize
 // ---- the lines of any operation
 
 // The line of an operation that leaves the hub as it is.
+#[tactic(auto, unfolding(crate::specs::Lines::query_pieces))]
 pub fn query_line(text: &mut [u8], at: usize, answer: Asked) -> usize
     ensures { written text.new result ≡ laid_all (query_pieces answer) (written text.old at) }
 {
@@ -272,6 +275,7 @@ pub fn query_line(text: &mut [u8], at: usize, answer: Asked) -> usize
 }
 
 // The lines of an operation that changes it; the events of a pump stand in the out buffer.
+#[tactic(auto, unfolding(crate::specs::Lines::call_pieces))]
 pub fn call_lines(text: &mut [u8], at: usize, out: &[u8], answer: Changed) -> usize
     ensures { written text.new result ≡ laid_all (call_pieces out.now answer) (written text.old at) }
 {

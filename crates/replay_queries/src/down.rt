@@ -10,6 +10,7 @@ use replay_answers::Asked;
 const PAYLOAD: usize = 1;
 
 // The head alone has it.
+#[tactic(auto, unfolding(crate::specs::Asked::down))]
 pub fn down(head: Head, payload: &[u8]) -> Asked
     ensures { (s : Listed) (t : Columns) → result ≡ down (hub_of head s t) payload.now }
 {
@@ -20,6 +21,7 @@ pub fn down(head: Head, payload: &[u8]) -> Asked
 }
 
 // The head tells its place; its line is that of a name's code.
+#[tactic(auto, unfolding(crate::specs::Asked::lowest))]
 pub fn lowest(head: Head, codes: &[u32; 208], payload: &[u8]) -> Asked
     ensures { (kinds names renames : List ℕ) (t : Columns) →
         result ≡ lowest (hub_of head (listed codes.now kinds names renames) t) payload.now }

@@ -11,6 +11,7 @@ use replay_answers::Asked;
 const PAYLOAD: usize = 5;
 
 // Its record by code, of which the line says `since` alone.
+#[tactic(auto, unfolding(crate::specs::Asked::since))]
 pub fn since(
     head: Head,
     codes: &[u32; 208],

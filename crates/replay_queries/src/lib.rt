@@ -1,5 +1,7 @@
 // The operations of the oracle's scenario form (`oracle/README.md`) that leave the hub as it is, on a hub that is lent: the queries and Repeat. Each answers what
 // its row of the table says (specs/Asked.antt), for every opcode and payload, by the call's own contract: a function here picks the call and reads the payload.
+#![tactic(auto)]
+
 mod down;
 mod held;
 mod old;
@@ -65,6 +67,7 @@ const PAD_PAYLOAD: usize = 1;
 // ---- by a code
 
 // What the state has for a code.
+#[tactic(auto, unfolding(crate::specs::Asked::state_by_code))]
 fn state_by_code(
     head: Head,
     codes: &[u32; 208],
@@ -106,6 +109,7 @@ fn state_by_code(
 }
 
 // What the sheet has for a code, else what the state has.
+#[tactic(auto, unfolding(crate::specs::Asked::by_code))]
 fn by_code<'s>(
     head: Head,
     codes: &'s [u32; 208],
@@ -141,6 +145,7 @@ fn by_code<'s>(
 
 // ---- by a name
 
+#[tactic(auto, unfolding(crate::specs::Asked::by_name))]
 fn by_name<'s>(
     head: Head,
     codes: &'s [u32; 208],
@@ -189,6 +194,7 @@ fn by_name<'s>(
 // ---- the head
 
 // Whether a pad is connected.
+#[tactic(auto, unfolding(crate::specs::Asked::stands))]
 fn stands(head: Head, payload: &[u8]) -> Asked
     ensures { (s : Listed) (t : Columns) → result ≡ stands (hub_of head s t) payload.now }
 {
@@ -199,6 +205,7 @@ fn stands(head: Head, payload: &[u8]) -> Asked
 }
 
 // What the head has, whatever the arrays hold.
+#[tactic(auto, unfolding(crate::specs::Asked::of_head))]
 fn of_head(head: Head, opcode: u8, payload: &[u8]) -> Asked
     ensures { (s : Listed) (t : Columns) → result ≡ of_head (hub_of head s t) opcode payload.now }
 {
@@ -215,6 +222,7 @@ fn of_head(head: Head, opcode: u8, payload: &[u8]) -> Asked
 }
 
 // What is down on a pad and whether it is old, else what the head has.
+#[tactic(auto, unfolding(crate::specs::Asked::by_pad))]
 fn by_pad(head: Head, codes: &[u32; 208], opcode: u8, payload: &[u8]) -> Asked
     ensures { (kinds names renames : List ℕ) (t : Columns) →
         result ≡ by_pad (hub_of head (listed codes.now kinds names renames) t) opcode payload.now }
@@ -234,6 +242,7 @@ fn by_pad(head: Head, codes: &[u32; 208], opcode: u8, payload: &[u8]) -> Asked
 // ---- any operation that leaves the hub as it is
 
 // The payload's length says whether a query goes by a code or by a name.
+#[tactic(auto, unfolding(crate::specs::Asked::asked_of, crate::specs::Asked::queried))]
 pub fn ask<'s>(
     head: Head,
     codes: &'s [u32; 208],

@@ -10,6 +10,7 @@ use replay_answers::Asked;
 const PAYLOAD: usize = 1;
 
 // The head alone tells it.
+#[tactic(auto, unfolding(crate::specs::Asked::old))]
 pub fn old(head: Head, payload: &[u8]) -> Asked
     ensures { (s : Listed) (t : Columns) → result ≡ old (hub_of head s t) payload.now }
 {

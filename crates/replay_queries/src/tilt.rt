@@ -20,6 +20,7 @@ fn is_nan(x: f32) -> bool
 }
 
 // The calculation, where none of the three is a NaN.
+#[tactic(auto, unfolding(crate::specs::Asked::calculated))]
 fn calculated(x: f32, y: f32, threshold: f32) -> Asked
     ensures { result ≡ calculated x y threshold }
 {
@@ -29,6 +30,7 @@ fn calculated(x: f32, y: f32, threshold: f32) -> Asked
     Asked::Pair(scale::apply_deadzone(x, y, threshold))
 }
 
+#[tactic(auto, unfolding(crate::specs::Asked::pair))]
 pub fn pair(payload: &[u8]) -> Asked
     ensures { result ≡ pair payload.now }
 {

@@ -10,6 +10,7 @@ use replay_answers::Asked;
 // the payload: after 8, every 8, now 8
 const PAYLOAD: usize = 24;
 
+#[tactic(auto, unfolding(crate::specs::Asked::repeated))]
 pub fn repeat<'s>(
     head: Head,
     codes: &[u32; 208],

@@ -1,6 +1,8 @@
 // One operation of the oracle's scenario form (`oracle/README.md`) with its lines, by what it does to the hub: one that changes it, and one that leaves it as
 // it is. Proved: which operations change the hub, and answer, hub and out buffer after one (specs/Changed.antt), by what `replay_desk` and `replay_events`
 // promise; and what either prints, with what stands after it (specs/Shown.antt), by what `replay_lines` and `replay_dump` promise.
+#![tactic(auto)]
+
 ghost use Rattle.std.specs.Prelude.{◌≡◌, List, ℕ};
 ghost use Rattle.hub.specs.Lent.{listed, columns, hub_of};
 ghost use Rattle.replay_answers.specs.Told.{told};
@@ -18,7 +20,7 @@ use rules::Answer;
 const DUMP: u8 = 24;
 
 // Between two operations: whether a hub stands, its head, and the place behind the text so far.
-#[derive(Drop)]
+#[derive(Clone, Copy)]
 pub struct Game {
     pub stands: bool,
     pub head: Head,
@@ -28,6 +30,7 @@ pub struct Game {
 // ---- operations that change the hub
 
 // Whether an operation changes the hub: but for `new` it needs one that stands.
+#[tactic(auto, unfolding(crate::specs::Changed::changes_of))]
 pub fn changes(stands: bool, opcode: u8) -> bool
     ensures { result ≡ changes_of stands opcode }
 {
@@ -45,6 +48,7 @@ pub fn changes(stands: bool, opcode: u8) -> bool
 }
 
 // An operation that changes the hub.
+#[tactic(auto, unfolding(crate::specs::Changed::changed_of))]
 pub fn change(
     head: Head,
     codes: &mut [u32; 208],

@@ -1,5 +1,7 @@
 // The words of a pad's records, which replay's lines and its dump print, and of a tilt (`oracle/README.md`). Each function appends to a buffer at a place and
 // answers the next place; it prints the pieces of its definition in `specs/Words.antt`, each where the buffer has room for it.
+#![tactic(auto)]
+
 ghost use Rattle.std.specs.Prelude.{◌≡◌};
 ghost use Rattle.rules.specs.Answers.{bit as bit_of};
 ghost use Rattle.replay_words.specs.Pieces.{written, laid_all};
@@ -19,6 +21,7 @@ pub fn bit(b: bool) -> u64
 // ---- records
 
 // A button record's words: value, pressed, repeating, counter, stamp.
+#[tactic(auto, unfolding(crate::specs::Words::button_pieces))]
 pub fn button_words(text: &mut [u8], at: usize, b: ButtonData) -> usize
     ensures { written text.new result ≡ laid_all (button_pieces b) (written text.old at) }
 {
@@ -30,6 +33,7 @@ pub fn button_words(text: &mut [u8], at: usize, b: ButtonData) -> usize
 }
 
 // An axis record's words: value, counter, stamp.
+#[tactic(auto, unfolding(crate::specs::Words::axis_pieces))]
 pub fn axis_words(text: &mut [u8], at: usize, a: AxisData) -> usize
     ensures { written text.new result ≡ laid_all (axis_pieces a) (written text.old at) }
 {

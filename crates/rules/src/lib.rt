@@ -1,4 +1,5 @@
 // The types of the desk hub: what events, records, sheets, the hub and its answers are. No function: the rules stand in specs/ as definitions.
+#![tactic(auto)]
 
 // ---- the numbers of document 01
 
@@ -66,7 +67,7 @@ pub const MALFORMED: u8 = 8;
 // ---- events, records, elements, the hub
 
 // What an event says. The cases that hold a value hold name, code and value; a button's name is 0..19, an axis's 32..40.
-#[derive(Drop)]
+#[derive(Clone, Copy)]
 pub enum EventType {
     Pressed(u8, u32),
     Released(u8, u32),
@@ -78,7 +79,7 @@ pub enum EventType {
     Dropped,
 }
 
-#[derive(Drop)]
+#[derive(Clone, Copy)]
 pub struct Event {
     pub pad: u8,
     pub time: u64,
@@ -86,7 +87,7 @@ pub struct Event {
 }
 
 // An event that waits, as plain numbers: nothing that leads to an enum can cross the C boundary, and the hub holds these.
-#[derive(Drop)]
+#[derive(Clone, Copy)]
 pub struct Slot {
     pub kind: u8,
     pub pad: u8,
@@ -97,7 +98,7 @@ pub struct Slot {
 }
 
 // A raw record, as its 21 bytes read.
-#[derive(Drop)]
+#[derive(Clone, Copy)]
 pub struct RawRecord {
     pub kind: u8,
     pub pad: u8,
@@ -107,21 +108,21 @@ pub struct RawRecord {
 }
 
 // What reading a raw record finds.
-#[derive(Drop)]
+#[derive(Clone, Copy)]
 pub enum RecordRead {
     Record(RawRecord),
     Malformed,
 }
 
 // The record that a step looks at: where the queue still holds something, or the record is malformed, a blank one.
-#[derive(Drop)]
+#[derive(Clone, Copy)]
 pub struct NextRecord {
     pub raw: RawRecord,
     pub fits: bool,
 }
 
 // An event's 22 bytes, as they stand: the value is still bits.
-#[derive(Drop)]
+#[derive(Clone, Copy)]
 pub struct EventForm {
     pub kind: u8,
     pub pad: u8,
@@ -132,14 +133,14 @@ pub struct EventForm {
 }
 
 // What reading an event finds.
-#[derive(Drop)]
+#[derive(Clone, Copy)]
 pub enum EventRead {
     Form(EventForm),
     Malformed,
 }
 
 // An element as its sheet lists it.
-#[derive(Drop)]
+#[derive(Clone, Copy)]
 pub struct SheetElement {
     pub code: u32,
     pub kind: u8,
@@ -150,7 +151,7 @@ pub struct SheetElement {
 }
 
 // What the hub keeps of an axis element: its lowest value and its range as binary32, whether the range is odd, and its deadzone threshold.
-#[derive(Drop)]
+#[derive(Clone, Copy)]
 pub struct Element {
     pub low: f32,
     pub range: f32,
@@ -159,7 +160,7 @@ pub struct Element {
 }
 
 // One of a pad's 52 places, as registration lays it: kind 0 is a direction that the sheet does not list, or a place past the last.
-#[derive(Drop)]
+#[derive(Clone, Copy)]
 pub struct Row {
     pub code: u32,
     pub kind: u8,
@@ -168,7 +169,7 @@ pub struct Row {
 }
 
 // A button record: gilrs's five fields, and since when the button has been held (W-206).
-#[derive(Drop)]
+#[derive(Clone, Copy)]
 pub struct ButtonData {
     pub value: f32,
     pub stamp: u64,
@@ -179,7 +180,7 @@ pub struct ButtonData {
 }
 
 // An axis record keeps value, stamp and counter together.
-#[derive(Drop)]
+#[derive(Clone, Copy)]
 pub struct AxisData {
     pub value: f32,
     pub stamp: u64,
@@ -190,7 +191,7 @@ pub struct AxisData {
 // `hats`, `converts` and `names` are the registered sheet's; where a pad is `renamed`, the columns `newhats`, `newconverts` and `renames` hold
 // instead. A place has a button record where it is `hasbutton`, and an axis record where it is `hasaxis`. Beside the button records stands what is down
 // (W-213): of each pad the bits of its places, how many of them are set, and how many of those are axis elements'.
-#[derive(Drop)]
+#[derive(Clone, Copy)]
 pub struct Hub {
     pub pressed: f32,
     pub released: f32,
@@ -227,7 +228,7 @@ pub struct Hub {
 // ---- small values that a step gathers and decides on
 
 // What a raw record gives: an event, and where `follows` says so one more that is queued.
-#[derive(Drop)]
+#[derive(Clone, Copy)]
 pub struct Dispatched {
     pub event: Event,
     pub follows: bool,
@@ -235,14 +236,14 @@ pub struct Dispatched {
 }
 
 // The deadzone flags of an axis and of its partner: whether a value other than 0 was sent last.
-#[derive(Drop)]
+#[derive(Clone, Copy)]
 pub struct Flags {
     pub own: bool,
     pub partner: bool,
 }
 
 // The other axis of a pair: whether some element has its name, that element's code, and the value that the state has for it.
-#[derive(Drop)]
+#[derive(Clone, Copy)]
 pub struct Partner {
     pub stands: bool,
     pub code: u32,
@@ -251,7 +252,7 @@ pub struct Partner {
 
 // What the filters see of the hub for one event: whether the pad converts and the hat's two directions read pressed; the stored axis value; the
 // threshold, where there is one; the value that the state has for the code; the partner, and the flags.
-#[derive(Drop)]
+#[derive(Clone, Copy)]
 pub struct View {
     pub converts: bool,
     pub positive: bool,
@@ -266,7 +267,7 @@ pub struct View {
 }
 
 // What the deadzone makes of an event: the event or Dropped, whether the partner is cleared and by which event, and the two flags after.
-#[derive(Drop)]
+#[derive(Clone, Copy)]
 pub struct Zoned {
     pub event: Event,
     pub clears: bool,
@@ -277,31 +278,31 @@ pub struct Zoned {
 // ---- answers
 
 // Of new, rename, update and insert_event.
-#[derive(Drop)]
+#[derive(Clone, Copy)]
 pub enum Answer {
     Done,
     Refused(u8),
 }
 
-#[derive(Drop)]
+#[derive(Clone, Copy)]
 pub struct Answered {
     pub hub: Hub,
     pub answer: Answer,
 }
 
-#[derive(Drop)]
+#[derive(Clone, Copy)]
 pub enum RegisterAnswer {
     Pad(u8),
     Refused(u8),
 }
 
-#[derive(Drop)]
+#[derive(Clone, Copy)]
 pub struct Registered {
     pub hub: Hub,
     pub answer: RegisterAnswer,
 }
 
-#[derive(Drop)]
+#[derive(Clone, Copy)]
 pub enum PumpAnswer {
     Drained(usize, usize, usize),
     Full(usize, usize, usize),
@@ -309,47 +310,47 @@ pub enum PumpAnswer {
     Refused(u8, usize, usize, usize),
 }
 
-#[derive(Drop)]
+#[derive(Clone, Copy)]
 pub struct Pumped {
     pub hub: Hub,
     pub answer: PumpAnswer,
 }
 
-#[derive(Drop)]
+#[derive(Clone, Copy)]
 pub enum RepeatAnswer {
     Due(Event),
     Quiet,
     Refused(u8),
 }
 
-#[derive(Drop)]
+#[derive(Clone, Copy)]
 pub enum TruthAnswer {
     Is(bool),
     Refused(u8),
 }
 
-#[derive(Drop)]
+#[derive(Clone, Copy)]
 pub enum ValueAnswer {
     Value(f32),
     Absent,
     Refused(u8),
 }
 
-#[derive(Drop)]
+#[derive(Clone, Copy)]
 pub enum ButtonAnswer {
     Data(ButtonData),
     Absent,
     Refused(u8),
 }
 
-#[derive(Drop)]
+#[derive(Clone, Copy)]
 pub enum AxisAnswer {
     Data(AxisData),
     Absent,
     Refused(u8),
 }
 
-#[derive(Drop)]
+#[derive(Clone, Copy)]
 pub enum NumberAnswer {
     Number(u32),
     Absent,
@@ -357,7 +358,7 @@ pub enum NumberAnswer {
 }
 
 // How many button records of a pad are pressed, and whether an axis element's is (W-213).
-#[derive(Drop)]
+#[derive(Clone, Copy)]
 pub enum DownAnswer {
     Down(u8, bool),
     Refused(u8),

@@ -1,3 +1,5 @@
+#![tactic(auto)]
+
 ghost use Rattle.std.specs.Prelude.{◌≡◌, true};
 ghost use Rattle.numbers.specs.Constants.{zero32, within_of, deadzone_within_of};
 ghost use Rattle.numbers.specs.Scale.{low_of, range_of, odd_of, plus_odd, turned_of, axis_scaled_of, button_scaled_of, threshold_of};
@@ -23,6 +25,7 @@ const JITTER_LIMIT: f32 = 0.01;
 // ---- 01's limits
 
 // whether a min, a max or a raw value is one that 01 allows
+#[tactic(auto, unfolding(numbers::specs::Constants::within_of))]
 pub fn within(raw: i32) -> bool
     ensures { result ≡ within_of raw }
 {
@@ -33,6 +36,7 @@ pub fn within(raw: i32) -> bool
 }
 
 // whether a sheet's deadzone field is one that 01 allows
+#[tactic(auto, unfolding(numbers::specs::Constants::deadzone_within_of))]
 pub fn deadzone_within(deadzone: u32) -> bool
     ensures { result ≡ deadzone_within_of deadzone }
 {
@@ -45,6 +49,7 @@ pub fn deadzone_within(deadzone: u32) -> bool
 // ---- what an axis element keeps of its min and max
 
 // An axis element's lowest value, as binary32.
+#[tactic(auto, unfolding(numbers::specs::Scale::low_of))]
 pub fn low_of(min: i32) -> f32
     requires { within_of min ≡ true }
     ensures { result ≡ low_of min }
@@ -53,6 +58,7 @@ pub fn low_of(min: i32) -> f32
 }
 
 // Its range, max - min, as binary32.
+#[tactic(auto, unfolding(numbers::specs::Scale::range_of))]
 pub fn range_of(min: i32, max: i32) -> f32
     requires { (within_of min ≡ true) × (within_of max ≡ true) }
     ensures { result ≡ range_of min max }
@@ -61,6 +67,7 @@ pub fn range_of(min: i32, max: i32) -> f32
 }
 
 // Whether its range is odd, which gilrs scales by another formula.
+#[tactic(auto, unfolding(numbers::specs::Scale::odd_of))]
 pub fn odd_of(min: i32, max: i32) -> bool
     requires { (within_of min ≡ true) × (within_of max ≡ true) }
     ensures { result ≡ odd_of min max }
@@ -71,6 +78,7 @@ pub fn odd_of(min: i32, max: i32) -> bool
 // ---- scaling
 
 // the odd rule
+#[tactic(auto, unfolding(numbers::specs::Scale::plus_odd))]
 fn plus_odd(odd: bool, x: f32) -> f32
     ensures { result ≡ plus_odd odd x }
 {
@@ -81,6 +89,7 @@ fn plus_odd(odd: bool, x: f32) -> f32
 }
 
 // the Y rule
+#[tactic(auto, unfolding(numbers::specs::Scale::turned_of))]
 fn turned(reversed: bool, x: f32) -> f32
     ensures { result ≡ turned_of reversed x }
 {
@@ -94,6 +103,7 @@ fn turned(reversed: bool, x: f32) -> f32
 }
 
 // gilrs's `axis_value`
+#[tactic(auto, unfolding(numbers::specs::Scale::axis_scaled_of))]
 pub fn axis_value(low: f32, range: f32, odd: bool, reversed: bool, raw: i32) -> f32
     requires { within_of raw ≡ true }
     ensures { result ≡ axis_scaled_of low range odd reversed raw }
@@ -104,6 +114,7 @@ pub fn axis_value(low: f32, range: f32, odd: bool, reversed: bool, raw: i32) -> 
 }
 
 // gilrs's `btn_value`
+#[tactic(auto, unfolding(numbers::specs::Scale::button_scaled_of))]
 pub fn button_value(low: f32, range: f32, raw: i32) -> f32
     requires { within_of raw ≡ true }
     ensures { result ≡ button_scaled_of low range raw }
@@ -114,6 +125,7 @@ pub fn button_value(low: f32, range: f32, raw: i32) -> f32
 // ---- the deadzone
 
 // gilrs's `Gamepad::deadzone`
+#[tactic(auto, unfolding(numbers::specs::Scale::threshold_of))]
 pub fn threshold_of(min: i32, max: i32, deadzone: u32) -> f32
     requires { ((within_of min ≡ true) × (within_of max ≡ true)) × (deadzone_within_of deadzone ≡ true) }
     ensures { result ≡ threshold_of min max deadzone }
@@ -125,6 +137,7 @@ pub fn threshold_of(min: i32, max: i32, deadzone: u32) -> f32
 }
 
 // "at or below the threshold"
+#[tactic(auto, unfolding(numbers::specs::Deadzone::inside_of))]
 fn inside(magnitude: f32, threshold: f32) -> bool
     ensures { result ≡ inside_of magnitude threshold }
 {
@@ -132,6 +145,7 @@ fn inside(magnitude: f32, threshold: f32) -> bool
 }
 
 // (0, 0) inside, else both times norm
+#[tactic(auto, unfolding(numbers::specs::Deadzone::norm_of, numbers::specs::Deadzone::shrunk_of))]
 fn shrunk_by(m: f32, threshold: f32, x: f32, y: f32) -> Pair
     ensures { result ≡ shrunk_of (inside_of m threshold) (norm_of m threshold) x y }
 {
@@ -146,6 +160,7 @@ fn shrunk_by(m: f32, threshold: f32, x: f32, y: f32) -> Pair
 }
 
 // A button's value by gilrs's `apply_deadzone`, beside which no partner stands. A threshold of 0, as triggers have, leaves it as it is: no root is needed.
+#[tactic(auto, unfolding(numbers::specs::Deadzone::deadzone_of))]
 pub fn shrink_value(x: f32, threshold: f32) -> f32
     ensures { result ≡ (deadzone_of x zero32 threshold).x }
 {
@@ -159,6 +174,7 @@ pub fn shrink_value(x: f32, threshold: f32) -> f32
 }
 
 // Which of three a magnitude is: inside the dead zone, at full tilt, or in between.
+#[tactic(auto, unfolding(numbers::specs::Tilt::tilt_at))]
 fn tilt_by(m: f32, threshold: f32) -> Tilt
     ensures { result ≡ tilt_at m threshold }
 {
@@ -173,6 +189,7 @@ fn tilt_by(m: f32, threshold: f32) -> Tilt
 
 // gilrs's `apply_deadzone`, and which of the three it was. Full tilt needs no root: where the squares reach 1 the magnitude is held to 1, and a threshold from 0 up
 // to below 1 leaves the pair as it was.
+#[tactic(auto, unfolding(numbers::specs::Tilt::tilted_of, numbers::specs::Deadzone::deadzone_of, numbers::specs::Tilt::tilt_of))]
 pub fn apply_deadzone(x: f32, y: f32, threshold: f32) -> Tilted
     ensures { result ≡ tilted_of x y threshold }
 {
@@ -196,6 +213,7 @@ pub fn apply_deadzone(x: f32, y: f32, threshold: f32) -> Tilted
 // ---- jitter
 
 // gilrs's `abs`, as a comparison
+#[tactic(auto, unfolding(numbers::specs::Jitter::abs_of))]
 fn abs(x: f32) -> f32
     ensures { result ≡ abs_of x }
 {
@@ -206,6 +224,7 @@ fn abs(x: f32) -> f32
 }
 
 // the test of gilrs's `Jitter`
+#[tactic(auto, unfolding(numbers::specs::Jitter::jitter_of))]
 pub fn jitters(value: f32, stored: f32) -> bool
     ensures { result ≡ jitter_of value stored }
 {

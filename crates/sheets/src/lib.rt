@@ -1,4 +1,6 @@
 // Pad sheets and rename lists read from lent bytes: the sheet's hats and elements, or the refusals 3, 4, 29 and 5 in that order.
+#![tactic(auto)]
+
 ghost use Rattle.std.specs.Prelude.{◌≡◌, ◌+◌, ◌-◌, ◌*◌, ◌≤◌, ◌<◌, length};
 ghost use Rattle.std.specs.Int.Signed.{lt_z};
 ghost use Rattle.rules.specs.Names.{name_allowed};
@@ -22,6 +24,7 @@ const ELEMENT_LIMIT: u8 = 48;
 // ---- elements
 
 // The fields of an element at a place.
+#[tactic(auto, unfolding(rules::specs::Sheets::element_fields))]
 fn element_at(s: &[u8], at: usize) -> SheetElement
     requires { at + 18 ≤ length s.now }
     ensures { result ≡ element_fields s.now at }
@@ -37,6 +40,7 @@ fn element_at(s: &[u8], at: usize) -> SheetElement
 }
 
 // The sheet's i-th element.
+#[tactic(auto, unfolding(rules::specs::Sheets::element_of))]
 pub fn element(s: &[u8], i: usize) -> SheetElement
     requires { 5 + 18 * i + 18 ≤ length s.now }
     ensures { result ≡ element_of s.now i }
@@ -47,6 +51,7 @@ pub fn element(s: &[u8], i: usize) -> SheetElement
 // ---- 4: "an element breaks a rule"
 
 // "Names 1..19, 33..40 or 255"
+#[tactic(auto, unfolding(rules::specs::Names::name_allowed))]
 pub fn name_allowed(name: u8) -> bool
     ensures { result ≡ name_allowed name }
 {
@@ -117,6 +122,7 @@ fn element_fits(e: SheetElement) -> bool
 }
 
 // "Codes strictly rise": the i-th element's code is above that of the one before it.
+#[tactic(auto, unfolding(rules::specs::Sheets::rises))]
 fn rises_at(s: &[u8], i: usize) -> bool
     requires { 5 + 18 * i + 18 ≤ length s.now }
     ensures { result ≡ rises s.now i }
@@ -166,6 +172,7 @@ fn occurs_in(s: &[u8], start: usize, stride: usize, name: u8, first: usize, coun
 }
 
 // The i-th name stands again behind it; "none but 255 twice".
+#[tactic(auto, unfolding(crate::specs::Spread::occurs_again, rules::specs::Sheets::name_at))]
 fn occurs_again(s: &[u8], start: usize, stride: usize, i: usize, count: usize) -> bool
     requires { (Spread s.now start stride count) × (i < count) }
     ensures { result ≡ occurs_again s.now start stride count i }
@@ -177,6 +184,7 @@ fn occurs_again(s: &[u8], start: usize, stride: usize, i: usize, count: usize) -
     occurs_in(s, start, stride, name, i + 1, count)
 }
 
+#[tactic(auto, unfolding(crate::specs::Spread::occurs_again))]
 fn occurs_twice(s: &[u8], start: usize, stride: usize, count: usize) -> bool
     requires { Spread s.now start stride count }
     ensures { result ≡ occurs_twice s.now start stride count 0 }
@@ -194,6 +202,7 @@ fn occurs_twice(s: &[u8], start: usize, stride: usize, count: usize) -> bool
 // ---- sheets
 
 // 3: "sheet's size, count, version or n wrong"
+#[tactic(auto, unfolding(rules::specs::Sheets::sheet_fits, rules::specs::Sheets::count_of))]
 fn sheet_fits(s: &[u8]) -> bool
     ensures { result ≡ sheet_fits s.now }
 {
@@ -212,6 +221,7 @@ fn sheet_fits(s: &[u8]) -> bool
 }
 
 // "Sheet order: 2, 3, 4, 5"; "29 partial hats, after 4 and before 5", but for an archived sheet. 0 where the sheet is good.
+#[tactic(auto, unfolding(rules::specs::Sheets::count_of, rules::specs::Sheets::sheet_refusal, rules::specs::Sheets::hats_of))]
 pub fn sheet_refusal(archived: bool, s: &[u8]) -> u8
     ensures { result ≡ sheet_refusal archived s.now }
 {
@@ -245,6 +255,7 @@ fn names_fit(s: &[u8]) -> bool
 }
 
 // "rename list not one name per element" 3, a name that is none 4, a name twice 5; 0 where the list is good.
+#[tactic(auto, unfolding(rules::specs::Sheets::rename_list_refusal))]
 pub fn rename_list_refusal(s: &[u8], count: u8) -> u8
     ensures { result ≡ rename_list_refusal s.now count }
 {

@@ -1,4 +1,6 @@
 // The records of a code after an event, and what is read of them: gilrs's `GamepadState`.
+#![tactic(auto)]
+
 ghost use Rattle.std.specs.Prelude.{◌≡◌, cond};
 ghost use Rattle.rules.specs.State.{button_after, axis_after, writes_button, writes_axis, read_pressed, read_value, next_counter};
 
@@ -29,6 +31,7 @@ fn kept_mark(known: bool, kept: bool, fresh: bool) -> bool
 
 // The button record after an event; the same one where the event writes none. Since when it is held (W-206): a press of a record that is not pressed, and a
 // repeat that creates one, set it; all else keeps it, and a record that begins otherwise has 0.
+#[tactic(auto, unfolding(rules::specs::State::button_after))]
 pub fn button_after(e: Event, known: bool, b: ButtonData, counter: u64) -> ButtonData
     ensures { result ≡ button_after e known b counter }
 {
@@ -75,6 +78,7 @@ pub fn button_after(e: Event, known: bool, b: ButtonData, counter: u64) -> Butto
 }
 
 // Whether an event writes a button record.
+#[tactic(auto, unfolding(rules::specs::State::writes_button))]
 pub fn writes_button(e: Event) -> bool
     ensures { result ≡ writes_button e }
 {
@@ -94,6 +98,7 @@ pub fn writes_button(e: Event) -> bool
 // ---- the axis record: gilrs's `update_axis`
 
 // The axis record after an event; the same one where the event writes none.
+#[tactic(auto, unfolding(rules::specs::State::axis_after))]
 pub fn axis_after(e: Event, a: AxisData, counter: u64) -> AxisData
     ensures { result ≡ axis_after e a counter }
 {
@@ -115,6 +120,7 @@ pub fn axis_after(e: Event, a: AxisData, counter: u64) -> AxisData
 }
 
 // Whether an event writes an axis record.
+#[tactic(auto, unfolding(rules::specs::State::writes_axis))]
 pub fn writes_axis(e: Event) -> bool
     ensures { result ≡ writes_axis e }
 {
@@ -134,6 +140,7 @@ pub fn writes_axis(e: Event) -> bool
 // ---- reads
 
 // pressed by code reads the button record alone: gilrs's `is_pressed`
+#[tactic(auto, unfolding(rules::specs::State::read_pressed))]
 pub fn read_pressed(known: bool, b: ButtonData) -> bool
     ensures { result ≡ read_pressed known b }
 {
@@ -141,6 +148,7 @@ pub fn read_pressed(known: bool, b: ButtonData) -> bool
 }
 
 // "Reading a code looks at axes first": gilrs's `value`
+#[tactic(auto, unfolding(rules::specs::State::read_value))]
 pub fn read_value(axisknown: bool, a: AxisData, buttonknown: bool, b: ButtonData) -> f32
     ensures { result ≡ read_value axisknown a buttonknown b }
 {
@@ -152,6 +160,7 @@ pub fn read_value(axisknown: bool, a: AxisData, buttonknown: bool, b: ButtonData
 const LAST_COUNTER: u64 = 0x3fff_ffff_ffff_ffff;
 
 // The counter one up, or from 2^62 - 1 to 0.
+#[tactic(auto, unfolding(rules::specs::State::next_counter))]
 pub fn next_counter(n: u64) -> u64
     ensures { result ≡ next_counter n }
 {

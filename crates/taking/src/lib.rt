@@ -1,5 +1,7 @@
 // What a step takes, behind one gate: the queue's front where something waits, else the record at the place, looked at, judged and dispatched. The gate stands
 // inside a function that is lent the arrays, and not in the pump's loop, where a branch that falls through would cost a join of all that is lent.
+#![tactic(auto)]
+
 ghost use Rattle.std.specs.Prelude.{◌≡◌};
 ghost use Rattle.columns.specs.Columns.{elements_of, buttons_of, slots_of};
 ghost use Rattle.taking.specs.Taking.{taking_hub, TakenIs};
@@ -9,7 +11,7 @@ use rules::{Event, EventType, RECORD_SIZE};
 
 // What a step takes: the record's refusal, 0 where there is none; the record's pad and kind, blank for the queue's front; the event, the place of its code, and
 // what the record queues behind it; and where batch and queue stand once it is taken.
-#[derive(Drop)]
+#[derive(Clone, Copy)]
 pub struct Taken {
     pub number: u8,
     pub pad: u8,
@@ -48,6 +50,7 @@ fn refused(number: u8) -> Taken
 }
 
 // Where something waits no record is looked at.
+#[tactic(auto, unfolding(rules::specs::Calls::fresh_hub))]
 pub fn take<'a>(
     codes: &'a [u32; 208],
     kinds: &'a [u8; 208],

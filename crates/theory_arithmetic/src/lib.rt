@@ -1,1 +1,2 @@
 // Theorems about the definitions of `numbers`; the files stand in specs/, and there is no function.
+#![tactic(auto)]

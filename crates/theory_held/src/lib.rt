@@ -1,1 +1,2 @@
 // Theorems about `since`, over the definitions of `rules`, in specs/. No function.
+#![tactic(auto)]

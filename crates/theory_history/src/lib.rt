@@ -1,1 +1,2 @@
 // Theorems about the definitions of `rules`, in specs/. No function.
+#![tactic(auto)]

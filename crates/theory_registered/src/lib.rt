@@ -1,1 +1,2 @@
 // Theorems about registered pads, in specs/. No function.
+#![tactic(auto)]

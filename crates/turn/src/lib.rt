@@ -1,4 +1,6 @@
 // One turn of the pump's loop, in small decisions. Each function equals its definition for every input.
+#![tactic(auto)]
+
 ghost use Rattle.std.specs.Prelude.{◌≡◌, true, ◌&&◌, ◌+◌, ◌-◌, ◌≤◌, ◌<◌, ◌%◌, eqb};
 ghost use Rattle.rules.specs.Names.{buffer_limit};
 ghost use Rattle.rules.specs.Hub.{longer_of, slot_at};
@@ -30,6 +32,7 @@ fn nothing(waiting: u8, rest: usize) -> bool
 }
 
 // Drained, Full, Paused, in this order, or to go on.
+#[tactic(auto, unfolding(rules::specs::Pump::stop_of))]
 pub fn stop(waiting: u8, rest: usize, room: usize, left: usize) -> u8
     requires { rest ≤ buffer_limit }
     ensures { result ≡ stop_of waiting rest room left }
@@ -64,6 +67,7 @@ pub fn stop_answer(why: u8, place: usize, events: usize, steps: usize) -> PumpAn
 // ---- the marks of a taken record
 
 // Connected sets the mark, Disconnected takes it off.
+#[tactic(auto, unfolding(rules::specs::Step::connected_after))]
 pub fn connect(connected: &mut [bool; 4], p: u8, kind: u8)
     ensures { connected.new ≡ connected_after connected.old p kind }
 {
@@ -77,6 +81,7 @@ pub fn connect(connected: &mut [bool; 4], p: u8, kind: u8)
 }
 
 // Connected forgets a rename.
+#[tactic(auto, unfolding(rules::specs::Step::renamed_after))]
 pub fn forget(renamed: &mut [bool; 4], p: u8, kind: u8)
     ensures { renamed.new ≡ renamed_after renamed.old p kind }
 {
@@ -86,6 +91,7 @@ pub fn forget(renamed: &mut [bool; 4], p: u8, kind: u8)
 }
 
 // How many marks of a run Connected takes off.
+#[tactic(auto, unfolding(rules::specs::Step::marks_cleared))]
 pub fn marks_cleared(kind: u8, n: usize) -> usize
     ensures { result ≡ marks_cleared kind n }
 {
@@ -102,6 +108,7 @@ pub fn front(head: u8) -> usize
 }
 
 // The ring's front once a step took it; the same where nothing waited.
+#[tactic(auto, unfolding(rules::specs::Step::head_after))]
 pub fn head_after(head: u8, waiting: u8) -> u8
     ensures { result ≡ head_after head waiting }
 {
@@ -127,6 +134,7 @@ pub fn free(head: u8, waiting: u8) -> usize
 }
 
 // How many wait with one more; the ring holds 64.
+#[tactic(auto, unfolding(rules::specs::Hub::longer_of))]
 pub fn longer(waiting: u8) -> u8
     ensures { result ≡ longer_of waiting }
 {

@@ -1,4 +1,6 @@
 // The byte forms of document 01, "ours, big-endian": fields of every width, raw records and events read, and events written.
+#![tactic(auto)]
+
 ghost use Rattle.std.specs.Prelude.{◌≡◌, ◌++◌, ◌+◌, ◌≤◌, ◌<◌, ◌^◌, length, drop};
 ghost use Rattle.rules.specs.Forms.{field_of, signed_of, opens, record_kind_fits, read_record, name_fits, event_kind_fits, read_event, form_bytes};
 ghost use Rattle.rules.specs.Events.{event_bytes};
@@ -27,6 +29,7 @@ fn wide(x: u8) -> u64
 }
 
 // The bytes from a place on as one number, the highest first: one reader for every width up to 8.
+#[tactic(auto, unfolding(rules::specs::Forms::field_of))]
 pub fn field(s: &[u8], at: usize, width: usize) -> u64
     requires { (width ≤ 8) × (at + width ≤ length s.now) }
     ensures { (result ≡ field_of s.now at width) × (result < 256 ^ width) }
@@ -65,6 +68,7 @@ pub fn read8(s: &[u8], at: usize) -> u64
 }
 
 // Four bytes read as a signed number.
+#[tactic(auto, unfolding(rules::specs::Forms::signed_of))]
 pub fn signed_of(x: u32) -> i32
     ensures { result ≡ signed_of x }
 {
@@ -84,6 +88,7 @@ pub fn signed4(s: &[u8], at: usize) -> i32
 }
 
 // "All open with a 2-byte count of the bytes that follow, then version 1."
+#[tactic(auto, unfolding(rules::specs::Forms::opens))]
 pub fn opens_as(s: &[u8], at: usize, size: usize) -> bool
     requires { at + 3 ≤ length s.now }
     ensures { result ≡ opens s.now at size }
@@ -98,6 +103,7 @@ pub fn opens_as(s: &[u8], at: usize, size: usize) -> bool
 // ---- raw records
 
 // "Value is 0 but for kind 3; code is 0 for kinds 4, 5", compared as bits.
+#[tactic(auto, unfolding(rules::specs::Forms::record_kind_fits))]
 fn record_kind_fits(kind: u8, code: u32, value: u32) -> bool
     ensures { result ≡ record_kind_fits kind code value }
 {
@@ -151,6 +157,7 @@ pub fn read_record(s: &[u8], at: usize) -> RecordRead
 // ---- events
 
 // "kinds 6 to 8 have name 255 and code 0"; 1 to 4 have a button's name and 5 an axis's.
+#[tactic(auto, unfolding(rules::specs::Forms::name_fits))]
 fn name_fits(kind: u8, name: u8, code: u32) -> bool
     ensures { result ≡ name_fits kind name code }
 {
@@ -167,6 +174,7 @@ fn name_fits(kind: u8, name: u8, code: u32) -> bool
 }
 
 // "Value only in 4 and 5, else 0", compared as bits.
+#[tactic(auto, unfolding(rules::specs::Forms::event_kind_fits, rules::specs::Forms::has_value))]
 fn event_kind_fits(kind: u8, name: u8, code: u32, bits: u32) -> bool
     ensures { result ≡ event_kind_fits kind name code bits }
 {
@@ -220,6 +228,7 @@ pub fn read_event(s: &[u8]) -> EventRead
 
 // The eight bytes of a number turned round. The compiler makes one instruction of it, and one store of the bytes of what it gives, the lowest first;
 // bytes that are stored the highest first it leaves single.
+#[tactic(auto, unfolding(crate::specs::Bytes::swapped_of))]
 fn swapped(x: u64) -> u64
     ensures { result ≡ swapped_of 8 x }
 {
@@ -276,6 +285,7 @@ fn form_bytes(f: EventForm) -> [u8; 22]
 
 // One event at the start of the part that is lent; the bytes after it stay. The pump lends "the out buffer's part starting at 22 times the
 // events already written".
+#[tactic(auto, unfolding(rules::specs::Forms::form_bytes, rules::specs::Events::event_bytes))]
 pub fn write_event(out: &mut [u8], e: Event)
     requires { 22 ≤ length out.old }
     ensures { out.new ≡ event_bytes e ++ drop 22 out.old }
@@ -292,6 +302,7 @@ pub fn write_event(out: &mut [u8], e: Event)
 // ---- the record that a step looks at
 
 // Where events wait a step takes the queue's front and looks at no record; a malformed record is shown as a blank one that does not fit.
+#[tactic(auto, unfolding(rules::specs::Step::next_record_of))]
 pub fn next_record(s: &[u8], at: usize, waiting: u8) -> NextRecord
     ensures { result ≡ next_record_of waiting s.now at }
 {

@@ -1,4 +1,6 @@
 // Zone pads (W-203): the zone of a hat's value, and the zones that the hub keeps, one for each pad and each axis of its hat.
+#![tactic(auto)]
+
 ghost use Rattle.std.specs.Prelude.{◌≡◌, cond, eqb};
 ghost use Rattle.rules.specs.Names.{dpad_x};
 ghost use Rattle.rules.specs.Sheets.{zoned_of, hats_renamed};
@@ -12,6 +14,7 @@ use rules::{KIND_CONNECTED, MIDDLE_ZONE, MINUS_ZONE, PLUS_ZONE, ZONE_MARK, ZONES
 // ---- a value
 
 // Whether a value presses the positive direction: on a zone pad 0.5 and above, on any other exactly 1.0.
+#[tactic(auto, unfolding(rules::specs::Zones::in_plus))]
 pub fn in_plus(zoned: bool, x: f32) -> bool
     ensures { result ≡ in_plus zoned x }
 {
@@ -19,6 +22,7 @@ pub fn in_plus(zoned: bool, x: f32) -> bool
 }
 
 // Whether it presses the negative one: -0.5 and below, or exactly -1.0.
+#[tactic(auto, unfolding(rules::specs::Zones::in_minus))]
 pub fn in_minus(zoned: bool, x: f32) -> bool
     ensures { result ≡ in_minus zoned x }
 {
@@ -26,6 +30,7 @@ pub fn in_minus(zoned: bool, x: f32) -> bool
 }
 
 // The zone of a value on a zone pad.
+#[tactic(auto, unfolding(rules::specs::Zones::zone_of))]
 pub fn zone_of(x: f32) -> u8
     ensures { result ≡ zone_of x }
 {
@@ -41,6 +46,7 @@ pub fn zone_of(x: f32) -> u8
 // ---- a pad
 
 // Bit 7 of a hats byte.
+#[tactic(auto, unfolding(rules::specs::Sheets::zoned_of))]
 fn marked(hats: u8) -> bool
     ensures { result ≡ zoned_of hats }
 {
@@ -48,6 +54,7 @@ fn marked(hats: u8) -> bool
 }
 
 // Whether a pad is a zone pad, by its sheet's hats.
+#[tactic(auto, unfolding(rules::specs::Hub::zoned_in))]
 pub fn zoned(hats: &[u8; 4], pad: u8) -> bool
     ensures { result ≡ zoned_in hats.now pad }
 {
@@ -55,6 +62,7 @@ pub fn zoned(hats: &[u8; 4], pad: u8) -> bool
 }
 
 // What a rename makes of a sheet's hats: bit 7 stays.
+#[tactic(auto, unfolding(rules::specs::Sheets::hats_renamed))]
 pub fn hats_renamed(hats: u8) -> u8
     ensures { result ≡ hats_renamed hats }
 {
@@ -70,6 +78,7 @@ fn axis_of(name: u8) -> usize
 }
 
 // Where the zone of a pad's hat axis stands; past the end for a pad that is none.
+#[tactic(auto, unfolding(rules::specs::Zones::zone_place))]
 pub fn place(pad: u8, name: u8) -> usize
     ensures { result ≡ zone_place pad name }
 {
@@ -77,7 +86,7 @@ pub fn place(pad: u8, name: u8) -> usize
 }
 
 // What a hat that turns sees: whether its pad is a zone pad, and the zone of its last converted value.
-#[derive(Drop)]
+#[derive(Clone, Copy)]
 pub struct HatZone {
     pub zoned: bool,
     pub zone: u8,
@@ -100,6 +109,7 @@ pub fn turn(hats: &[u8; 4], zones: &mut [u8; 8], pad: u8, name: u8, x: f32) -> H
 }
 
 // Both of a pad's are the middle.
+#[tactic(auto, unfolding(rules::specs::Zones::centred_of))]
 pub fn centre(zones: &mut [u8; 8], pad: u8)
     ensures { zones.new ≡ centred_of zones.old pad }
 {
@@ -109,6 +119,7 @@ pub fn centre(zones: &mut [u8; 8], pad: u8)
 }
 
 // Both are the middle once a pad joins.
+#[tactic(auto, unfolding(rules::specs::Step::zones_cleared))]
 pub fn join(zones: &mut [u8; 8], pad: u8, kind: u8)
     ensures { zones.new ≡ zones_cleared zones.old pad kind }
 {
