@@ -8,7 +8,7 @@ count=${1:-1000}
 seed=${2:-$(date +%s)}
 say() { printf 'outside: %s\n' "$*"; }
 
-rt staticlib copperyarn 2>&1 | scripts/progress | tail -n 1
+scripts/library
 left=0
 outside/c/test.sh || left=$?
 [ "$left" -eq 0 ] || [ "$left" -eq 3 ] || exit "$left"

@@ -4,6 +4,5 @@
 set -euo pipefail
 cd "$(dirname "${BASH_SOURCE[0]}")"
 sheet=${1:-hat} batch=${2:-hat}
-mkdir -p target
-rt check padlog 2>&1 | scripts/progress padlog >target/padlog.log || { cat target/padlog.log >&2; exit 1; }
+scripts/program padlog
 cat "desk-files/sheets/$sheet.bin" "desk-files/batches/$batch.bin" | scripts/run padlog

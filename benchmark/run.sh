@@ -12,7 +12,7 @@ read -ra rustc <<<"$x86_rustc"
 export X86_RUN=$x86_run
 
 mkdir -p "$folder"
-(cd "$root" && rt staticlib copperyarn) >"$folder/library.log" 2>&1 || { cat "$folder/library.log" >&2; exit 1; }
+"$root/scripts/library"
 ORACLE_BUILD=$folder/oracle ORACLE_RUSTC=$x86_rustc "$root/oracle/build.sh"
 "${rustc[@]}" --edition 2021 -O --crate-type rlib --crate-name copperyarn --out-dir "$folder" \
   -L "native=$root/target/staticlib" -l static=copperyarn "$root/rust/src/lib.rs"

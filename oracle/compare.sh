@@ -1,7 +1,7 @@
 #!/usr/bin/env bash
 # Plays scenarios on the hub and compares with gilrs's answers: oracle/compare.sh [COUNT [SEED]]. First the stored sample, which needs no oracle; then
 # COUNT random scenarios on both, valid and damaged. They are made in parts, each by a seed of its own, counted up from SEED (the clock's seconds, if none
-# is given); on a difference the part's seed is printed. What plays is the linked program of replay (`rt check replay`), or the command that PLAYER names,
+# is given); on a difference the part's seed is printed. What plays is the linked program of replay (`scripts/program replay`), or the command that PLAYER names,
 # which reads scenarios from standard input.
 set -euo pipefail
 oracle=$(cd "$(dirname "${BASH_SOURCE[0]}")" && pwd)

@@ -1,4 +1,4 @@
-//! Links the library that `rt staticlib copperyarn` writes: from the folder that `COPPERYARN_LIB` names, else from `target/staticlib` of the repository.
+//! Links the library that `scripts/library` writes: from the folder that `COPPERYARN_LIB` names, else from `target/staticlib` of the repository.
 
 use std::env;
 use std::path::PathBuf;
@@ -15,7 +15,7 @@ fn main() {
         );
     } else if !library.is_file() {
         println!(
-            "cargo::error=there is no {}: run `rt staticlib copperyarn` in the repository, or let COPPERYARN_LIB name the folder that has it",
+            "cargo::error=there is no {}: run `scripts/library` in the repository, or let COPPERYARN_LIB name the folder that has it",
             library.display()
         );
     } else {

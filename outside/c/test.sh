@@ -1,5 +1,5 @@
 #!/usr/bin/env bash
-# The headers and the library from C: outside/c/test.sh, after `rt staticlib copperyarn`. The headers are compiled as C11 and C++17 in any case. Then the programs
+# The headers and the library from C: outside/c/test.sh, after `scripts/library`. The headers are compiled as C11 and C++17 in any case. Then the programs
 # here are built for x86-64, plainly, optimised, and with undefined behaviour trapped, and run: padlog on the shipped sheets and batches, the oracle's stored
 # sample, 01's worked numbers, every refusal, since when a button is held, why a stick went quiet, what is down right now, which pads are old. On x86-64 they
 # run under valgrind too where it is at hand, elsewhere under qemu. Exit status 3: the programs were left out, as no compiler for x86-64 or no emulator is at
@@ -27,7 +27,7 @@ else
     have "$tool" || { echo "The C programs were left out: no $tool on this machine, which is not x86-64."; exit 3; }
   done
 fi
-[ -f "$library" ] || { echo "no $library: run 'rt staticlib copperyarn' first" >&2; exit 2; }
+[ -f "$library" ] || { echo "no $library: run 'scripts/library' first" >&2; exit 2; }
 
 # build NAME WORDS..: builds one program with these words
 build() { "${compiler[@]}" -std=c11 "${strict[@]}" "${@:2}" -o "$folder/$1" "$here/$1.c" "$library"; }

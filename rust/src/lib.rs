@@ -21,7 +21,7 @@
 //! - Nothing panics, and every call ends with an answer: what is wrong is refused, with a number and a sentence ([`Refusal`]).
 //! - For those who come from gilrs, `docs/FROM-GILRS.md` has the calls side by side. The rules stand in `docs/SCOPE.md`.
 //!
-//! The library is made by `rt staticlib copperyarn` for Linux on x86-64. It is looked for in the repository's `target/staticlib`, or in the folder that
+//! The library is made by `scripts/library` for Linux on x86-64. It is looked for in the repository's `target/staticlib`, or in the folder that
 //! `COPPERYARN_LIB` names.
 
 #![deny(unsafe_code, unsafe_op_in_unsafe_fn)]

@@ -1,9 +1,10 @@
 // Plays a stored list of values against each leaf of the arithmetic, bit for bit, and prints for each how many were played and how many came out wrong.
 #![tactic(auto)]
 
-ghost use Rattle.std.specs.Prelude.{◌+◌, ◌≤◌, ◌<◌};
+ghost use Rattle.std.specs.Prelude.{◌+◌, ◌≤◌, ◌<◌, IfOk};
 
-use libc::{STDIN_FILENO, STDOUT_FILENO};
+use std::io;
+use std::io::{Print, Read};
 
 // how many records the list has of each leaf
 const RECORDS: u64 = 20000;
@@ -204,53 +205,64 @@ fn right(leaf: u8, record: &[u8; 20]) -> bool {
     }
 }
 
+// Whether the input has the bytes that fill the room, however few each read gives.
+fn came(input: &mut impl Read, room: &mut [u8]) -> io::Result<bool> {
+    match input.read_exact(room) {
+        Ok(()) => Ok(true),
+        Err(e) => {
+            if e.kind() == io::ErrorKind::UnexpectedEof {
+                Ok(false)
+            } else {
+                Err(e)
+            }
+        }
+    }
+}
+
 // 1 for a record that is there and does not come out as it says, or is cut short
-fn fault(leaf: u8, words: usize) -> u64
+fn fault(input: &mut impl Read, leaf: u8, words: usize) -> io::Result<u64>
     requires { words ≤ 5 }
-    ensures { result ≤ 1 }
+    ensures { IfOk result (λ n. n ≤ 1) }
 {
     let mut record = [0u8; 20];
     let size = words * 4;
-    let got = io::read_full(STDIN_FILENO, &mut record[..size]);
-    if got < size {
-        return 1;
+    if !came(input, &mut record[..size])? {
+        return Ok(1);
     }
     if right(leaf, &record) {
-        return 0;
+        return Ok(0);
     }
-    1
+    Ok(1)
 }
 
 // how many of a leaf's records come out wrong
-fn faults(leaf: u8, words: usize) -> u64
+fn faults(input: &mut impl Read, leaf: u8, words: usize) -> io::Result<u64>
     requires { words ≤ 5 }
 {
     let mut n: u64 = 0;
     let mut wrong: u64 = 0;
     while n < RECORDS {
-        wrong += fault(leaf, words);
+        wrong += fault(input, leaf, words)?;
         n += 1;
     }
-    wrong
+    Ok(wrong)
 }
 
-fn report(name: &[u8], wrong: u64) {
-    io::write_all(STDOUT_FILENO, name);
-    io::write_all(STDOUT_FILENO, b" ");
-    io::print_decimal(STDOUT_FILENO, RECORDS);
-    io::write_all(STDOUT_FILENO, b" ");
-    io::print_decimal(STDOUT_FILENO, wrong);
-    io::write_all(STDOUT_FILENO, b" wrong\n");
+fn report(out: &impl Print, name: &[u8], wrong: u64) -> io::Result<()> {
+    out.write_all(name)?;
+    println!(out; " {RECORDS} {wrong} wrong")
 }
 
-fn main() {
-    report(b"within", faults(0, 2));
-    report(b"root", faults(1, 2));
-    report(b"clamp", faults(2, 4));
-    report(b"magnitude", faults(3, 3));
-    report(b"axis", faults(4, 5));
-    report(b"button", faults(5, 4));
-    report(b"threshold", faults(6, 4));
-    report(b"deadzone", faults(7, 5));
-    report(b"jitter", faults(8, 3));
+fn main(rt: HostRuntime) -> io::Result<()> {
+    let mut input = rt.stdin();
+    let out = rt.stdout();
+    report(&out, b"within", faults(&mut input, 0, 2)?)?;
+    report(&out, b"root", faults(&mut input, 1, 2)?)?;
+    report(&out, b"clamp", faults(&mut input, 2, 4)?)?;
+    report(&out, b"magnitude", faults(&mut input, 3, 3)?)?;
+    report(&out, b"axis", faults(&mut input, 4, 5)?)?;
+    report(&out, b"button", faults(&mut input, 5, 4)?)?;
+    report(&out, b"threshold", faults(&mut input, 6, 4)?)?;
+    report(&out, b"deadzone", faults(&mut input, 7, 5)?)?;
+    report(&out, b"jitter", faults(&mut input, 8, 3)?)
 }

@@ -1,9 +1,7 @@
 -- What a hat's axis gives, by where it stands. The two ways to press a direction are one: toward the positive end, and toward the negative end
 -- with the directions exchanged.
-use mathlib.Core.Path.{◌≡◌, refl}
-use mathlib.Core.Bool.{Bool, true, false}
-use Prim.Native.Nat.{ℕ}
-use lib.Ieee.{Float, eq, neg, of_bits}
+use Rattle.std.proofs.Common.{◌≡◌, refl, Bool, true, false, ℕ}
+use Rattle.std.specs.Float.Ieee.{Float, eq, neg, of_bits}
 use Rattle.numbers.specs.Constants.{one32, minus_one32}
 use Rattle.rules.specs.declared.Event.{Event}
 use Rattle.rules.specs.declared.View.{View}

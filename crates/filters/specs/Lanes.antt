@@ -1,7 +1,7 @@
 -- The filters by what an event is: which of them look at it, what it then becomes, what they leave of the flags, and what they queue. An event at which none
 -- looks passes as it is; a button's value meets the deadzone alone; a hat that turns into its directions is asked for those alone; every other axis meets
 -- jitter and deadzone, which ask for no direction.
-use Rattle.std.specs.Prelude.{ℕ, ◌+◌, ◌≤◌, ◌≡◌, Bool, cond, ◌&&◌, List, [], ◌∷◌, Float}
+use Rattle.std.specs.Prelude.{ℕ, ◌≤◌, ◌≡◌, Bool, cond, ◌&&◌, List, [], Float}
 use Rattle.std.proofs.Math.Path.{refl, ap}
 use Rattle.std.proofs.Common.{sym, ◌∙◌, arith}
 use Rattle.std.proofs.Math.Bool.{true, false}
@@ -16,8 +16,8 @@ use Rattle.rules.specs.declared.Flags.{Flags}
 use Rattle.rules.specs.declared.View.{View}
 use Rattle.rules.specs.declared.Zoned.{Zoned}
 use Rattle.rules.specs.Names.{is_hat}
-use Rattle.rules.specs.Events.{WithQueued, with, dropped, alone, event_if}
-use Rattle.rules.specs.Filters.{Filtered, Direction, hat_by, hat_gives, unless, passes, shrunk, clears_partner, flags_after, stick_zoned, button_zoned, dpad_of, jittered_of, deadzone_type, deadzoned_of, joined, unfiltered, filtered_of}
+use Rattle.rules.specs.Events.{WithQueued, dropped, alone, event_if}
+use Rattle.rules.specs.Filters.{Filtered, Direction, hat_by, hat_gives, unless, shrunk, clears_partner, flags_after, stick_zoned, button_zoned, dpad_of, jittered_of, deadzoned_of, joined, filtered_of}
 use Rattle.filters.specs.Converted.{plus, minus}
 
 -- ---- the lanes

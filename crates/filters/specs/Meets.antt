@@ -2,7 +2,7 @@
 -- meets a threshold but an axis that is no hat of a converting pad, and that asks for no direction.
 use Rattle.std.specs.Prelude.{ℕ, ◌≡◌, Bool, cond, ◌&&◌, Float}
 use Rattle.std.proofs.Math.Path.{refl}
-use Rattle.std.proofs.Common.{sym, ◌∙◌, ap, arith}
+use Rattle.std.proofs.Common.{arith}
 use Rattle.std.proofs.Math.Bool.{true, false}
 use Rattle.std.specs.Float.Ieee.{eq}
 use Rattle.numbers.specs.Constants.{zero32, one32, minus_one32}
@@ -16,7 +16,7 @@ use Rattle.rules.specs.declared.EventType.TheVariants.{Pressed, Released, Repeat
 use Rattle.rules.specs.declared.View.{View}
 use Rattle.rules.specs.declared.Zoned.{Zoned}
 use Rattle.rules.specs.Names.{is_hat}
-use Rattle.rules.specs.Events.{WithQueued, dropped}
+use Rattle.rules.specs.Events.{dropped}
 use Rattle.rules.specs.Filters.{Direction, hat_by, hat_gives, dpad_of, jittered_of, shrunk, stick_zoned, deadzoned_of}
 use Rattle.rules.specs.Tilt.{tilted, zone_met, met_of}
 use Rattle.filters.specs.declared.Met.{Met}

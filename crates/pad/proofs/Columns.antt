@@ -1,29 +1,7 @@
--- A column read or marked at a place that it has not: the read gives the default, and the mark changes nothing.
-use Prim.Native.Nat.{ℕ, zero, suc, ◌≤◌, ◌<◌, ◌+◌, ◌-◌}
-use mathlib.Core.Bool.{Bool, false}
-use mathlib.Core.List.{List, [], ◌∷◌}
-use mathlib.Core.Path.{◌≡◌, refl, sym}
-use native.Mathlib.Nat.{le_of_suc-le-suc, not-suc-le-zero}
-use native.Mathlib.Numerals.{sub-one}
-use native.Mathlib.Omega.{arith}
-use lib.ListN.{length, get_or, set, get_or-eq_default}
-use lib.Seq.{set_out}
+-- Marks taken off one after another: past the end of the column nothing happens, and each turn takes one off.
+use Rattle.std.proofs.Common.{◌≡◌, ℕ, zero, suc, ◌+◌, ◌-◌, ◌<◌, ◌≤◌, Bool, false, List, length, set, refl, arith, sub-one}
+use Rattle.std.proofs.Math.Seq.{set_out}
 use Rattle.rules.specs.Places.{cleared_of}
-
-module _ {A : Type 0} (xs : List A) (k : ℕ) where
-  pub read_past : (d : A) → length xs ≤ k → d ≡ get_or xs k d
-  read_past d past = sym (get_or-eq_default xs d past)
-
-  pub mark-past : (v : A) → length xs ≤ k → xs ≡ set xs k v
-  mark-past v past = sym (set_out xs k v past)
-
--- where the column has the place, no default is read
-pub any-default : {A : Type 0} (xs : List A) (k : ℕ) (d e : A) → k < length xs → get_or xs k d ≡ get_or xs k e
-any-default [] k d e h = absurd (not-suc-le-zero h)
-any-default (x ∷ xs) zero d e h = refl
-any-default (x ∷ xs) (suc k) d e h = any-default xs k d e (le_of_suc-le-suc h)
-
--- ---- marks taken off
 
 pub cleared-past : (marks : List Bool) (i n : ℕ) → length marks ≤ i → cleared_of marks i n ≡ marks
 unfolding cleared_of

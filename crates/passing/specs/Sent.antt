@@ -1,6 +1,6 @@
 -- The place that goes with an event that is handed on: that of its code, unless it is dropped. A filter that hands an event on leaves its pad and code, but for
 -- a hat that turns, which hands on an event of one of its two directions.
-use Rattle.std.specs.Prelude.{ℕ, ◌≤◌, ◌≡◌, Bool, cond, not, ◌&&◌, List, eqb, Float}
+use Rattle.std.specs.Prelude.{ℕ, ◌≤◌, ◌≡◌, Bool, cond, ◌&&◌, List, eqb, Float}
 use Rattle.std.proofs.Math.Path.{refl}
 use Rattle.std.proofs.Common.{sym, ◌∙◌, ap, arith, eq-eqb, eqb-true}
 use Rattle.std.proofs.Math.Bool.{true, false}
@@ -18,7 +18,7 @@ use Rattle.rules.specs.Places.{place_of}
 use Rattle.rules.specs.Events.{name_of, code_of, is_dropped, dropped}
 use Rattle.rules.specs.Filters.{Direction, hat_by, hat_gives, unless, shrunk, stick_zoned, dpad_of, jittered_of, deadzoned_of, kept_of}
 use Rattle.filters.specs.Converted.{plus, minus}
-use Rattle.filters.specs.Lanes.{lane_of, axis_lane, value_lane, zoned_value, directed}
+use Rattle.filters.specs.Lanes.{lane_of, axis_lane, zoned_value, directed}
 use Rattle.passing.specs.declared.Served.{Served}
 
 -- r is handed on by filters that are on or off: its place can be indexed by, and is its code's where it is kept

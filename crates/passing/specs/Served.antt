@@ -1,13 +1,12 @@
 -- What is left once a taken event is served: the event that the filters hand on, the flags, and the queue with what the record and the filters queue. The
 -- records, whose columns stand in the same arrays as the queue's, are as they were, so what is seen of them after the first push is what stood before it.
-use Rattle.std.specs.Prelude.{ℕ, ◌+◌, ◌≤◌, ◌<◌, ◌≡◌, refl, Bool, true, false, cond, List, [], ◌∷◌, ◌++◌, get_or, length, set, take, eqb, Float}
+use Rattle.std.specs.Prelude.{ℕ, ◌+◌, ◌≤◌, ◌<◌, ◌≡◌, refl, Bool, List, [], ◌∷◌, get_or, length, set, take, eqb, Float}
 use Rattle.std.proofs.Math.Path.{sym, ap}
 use Rattle.std.proofs.Common.{◌∙◌, subst, take_all, take-suc, arith, add-one}
 use Rattle.rules.specs.declared.Hub.{Hub}
 use Rattle.rules.specs.declared.Event.{Event}
 use Rattle.rules.specs.declared.Element.{Element}
 use Rattle.rules.specs.declared.ButtonData.{ButtonData}
-use Rattle.rules.specs.declared.AxisData.{AxisData}
 use Rattle.rules.specs.declared.Dispatched.{Dispatched}
 use Rattle.rules.specs.declared.Zoned.{Zoned}
 use Rattle.rules.specs.declared.Flags.{Flags}

@@ -1,6 +1,5 @@
 -- A turn that takes an event, makes a record's marks and serves the event is the law book's: from what each of its calls answers.
 use Rattle.std.specs.Prelude.{ℕ, ◌≡◌, refl, Bool, List}
-use Rattle.std.proofs.Common.{sym, ◌∙◌}
 use Rattle.numbers.specs.declared.Tilt.{Tilt}
 use Rattle.rules.specs.declared.Hub.{Hub}
 use Rattle.rules.specs.declared.Event.{Event}

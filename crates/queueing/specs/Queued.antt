@@ -1,6 +1,6 @@
 -- What pushing events leaves of the lent arrays: the queue has them, one after the other, and the records are as they were; and the hub that the arrays stand
 -- for, with one event more.
-use Rattle.std.specs.Prelude.{ℕ, ◌≡◌, Bool, List, [], ◌∷◌, ◌++◌, Float}
+use Rattle.std.specs.Prelude.{ℕ, ◌≡◌, Bool, List, [], ◌∷◌, ◌++◌, set, Float}
 use Rattle.std.proofs.Math.Path.{refl}
 use Rattle.std.proofs.Common.{◌∙◌}
 use Rattle.rules.specs.declared.Event.{Event}
@@ -31,7 +31,7 @@ queue-then :
     queue_after (queue_after queue head waiting es) head (waiting_after waiting es) fs ≡ queue_after queue head waiting (es ++ fs)
 unfolding queue_after waiting_after
 queue-then queue head waiting [] fs = refl
-queue-then queue head waiting (e ∷ es) fs = queue-then _ head (longer_of waiting) es fs
+queue-then queue head waiting (e ∷ es) fs = queue-then (set queue (slot_at head waiting) (slot_of e)) head (longer_of waiting) es fs
 
 waiting-then : (waiting : ℕ) (es fs : List Event) → waiting_after (waiting_after waiting es) fs ≡ waiting_after waiting (es ++ fs)
 unfolding waiting_after

@@ -1,6 +1,5 @@
 -- The order of a sheet's and a rename list's refusals: the first of the numbers that there are is what the definitions choose.
-use mathlib.Core.Path.{◌≡◌, refl}
-use mathlib.Core.Bool.{Bool, true, false, cond, not, ◌||◌}
+use Rattle.std.proofs.Common.{◌≡◌, refl, Bool, true, false, cond, not, ◌||◌}
 use Rattle.rules.specs.Refusals.{first, unless_fits}
 
 pub in_order : (over fit partial twice : Bool)

@@ -1,12 +1,6 @@
 -- A scan of what is left: a definition that tests the i-th of count things and goes on with the next is, at each turn of a loop, what the loop has
 -- still to answer. One law for scans that stop at the first that fails, one for scans that stop at the first that holds; then the scans of a sheet.
-use mathlib.Core.Path.{◌≡◌, refl, sym, ◌∙◌, ap}
-use mathlib.Core.Bool.{Bool, true, false, not, ◌&&◌, ◌||◌}
-use mathlib.Core.List.{List}
-use Prim.Native.Nat.{ℕ, suc, ◌+◌, ◌-◌, ◌*◌, ◌≤◌, ◌<◌}
-use native.Mathlib.Omega.{arith}
-use lib.ListN.{get_or}
-use lib.Dec.{eqb}
+use Rattle.std.proofs.Common.{◌≡◌, refl, sym, ◌∙◌, ap, Bool, true, false, not, ◌&&◌, ◌||◌, List, ℕ, suc, ◌+◌, ◌-◌, ◌*◌, ◌≤◌, ◌<◌, arith, get_or, eqb}
 use Rattle.rules.specs.Names.{name_allowed}
 use Rattle.rules.specs.Sheets.{element_of, element_fits, rises, elements_fit, name_at, occurs_in, occurs_twice, names_fit}
 

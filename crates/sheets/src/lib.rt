@@ -77,6 +77,7 @@ fn below(x: i32, y: i32) -> bool
 }
 
 // "For a button min, max and deadzone are 0"
+#[tactic(auto, unfolding(rules::specs::Sheets::button_fits))]
 fn button_fits(e: SheetElement) -> bool
     ensures { result ≡ button_fits e }
 {
@@ -90,6 +91,7 @@ fn button_fits(e: SheetElement) -> bool
 }
 
 // "Axis min < max, and min, max and raw values in -8,388,608..8,388,607"; "Deadzone 0..16,777,215 or absent"
+#[tactic(auto, unfolding(rules::specs::Sheets::axis_fits))]
 fn axis_fits(e: SheetElement) -> bool
     ensures { result ≡ axis_fits e }
 {
@@ -106,6 +108,7 @@ fn axis_fits(e: SheetElement) -> bool
 }
 
 // Kind, name, and the limits of its kind.
+#[tactic(auto, unfolding(rules::specs::Sheets::element_fits))]
 fn element_fits(e: SheetElement) -> bool
     ensures { result ≡ element_fits e }
 {

@@ -1,7 +1,5 @@
 -- Since when a button is held, by the kind of event: what the law book's one rule comes to where the record reads pressed with the event as that kind leaves it.
-use Prim.Native.Nat.{ℕ}
-use mathlib.Core.Path.{◌≡◌, refl}
-use mathlib.Core.Bool.{Bool, true, false, cond, not, ◌&&◌}
+use Rattle.std.specs.Prelude.{◌≡◌, refl, Bool, true, false, cond, not, ◌&&◌, ℕ}
 use Rattle.rules.specs.declared.ButtonData.{ButtonData}
 use Rattle.rules.specs.State.{read_pressed, since_after}
 

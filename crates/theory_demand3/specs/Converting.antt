@@ -154,20 +154,20 @@ module _ (h : Hub) (desk : Desk h) (p : ℕ) (b : List ℕ) (stands : p < pad_li
     unnamed-by true false right d m = true-false m
     unnamed-by false name right d m = false-true d
 
-    no_name : (c : ℕ) → is_direction c ≡ true → (l : Lookup) → lookup c elements ≡ l → lookup_name l ≡ no_name
+    no-name : (c : ℕ) → is_direction c ≡ true → (l : Lookup) → lookup c elements ≡ l → lookup_name l ≡ no_name
     unfolding sheet_read
-    no_name c is (listed e) found =
+    no-name c is (listed e) found =
         let a = lookup-among (count_of b) b 0 c e found in
         let to = a.to in
         let d = element_of b a.number in
         let direction : is_direction d.code ≡ true = ap is_direction a.code ∙ is in
         let blank = unnamed-by (is_direction d.code) (eqb d.name no_name) (eqb d.name dpad_right) direction (none a.number (omega arith)) in
         sym (ap (λ (x : SheetElement). x.name) a.is) ∙ eqb-true d.name no_name blank
-    no_name c is unlisted found = refl
+    no-name c is unlisted found = refl
 
     unnamed : (c : ℕ) → is_direction c ≡ true → place_in h p c < nowhere → named c ≡ false
     unfolding code_named
-    unnamed c is found = rw (name-kept h p b stands k c found, no_name c is (lookup c elements) refl)
+    unnamed c is found = rw (name-kept h p b stands k c found, no-name c is (lookup c elements) refl)
 
     no-direction : direction_named h.codes h.names p ≡ false
     unfolding direction_named is_direction

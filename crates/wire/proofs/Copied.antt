@@ -1,11 +1,6 @@
 -- A loop that copies s to the front of d: what it has made at its i-th turn and at its end.
-use mathlib.Core.Path.{◌≡◌, sym, ◌∙◌, ap}
-use mathlib.Core.List.{List, ◌++◌}
-use Prim.Native.Nat.{ℕ, suc, ◌+◌, ◌≤◌, ◌<◌}
-use native.Mathlib.Numerals.{add-one}
-use native.Mathlib.Omega.{arith}
-use lib.ListN.{length, take, drop, get_or, set}
-use lib.Seq.{take_all, paste, paste-suc, length-paste}
+use Rattle.std.proofs.Common.{◌≡◌, ℕ, suc, ◌+◌, ◌≤◌, ◌<◌, List, ◌++◌, length, take, drop, get_or, set, sym, ◌∙◌, ap, add-one, arith}
+use Rattle.std.proofs.Math.Seq.{take_all, paste, paste-suc, length-paste}
 
 module _ (d s out : List ℕ) (i : ℕ) (room : length s ≤ length d) (e : out ≡ paste d 0 s i) where
   pub copied-length : i ≤ length s → length out ≡ length d

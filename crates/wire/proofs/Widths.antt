@@ -1,13 +1,7 @@
 -- The law over the width that every reader's proof cites: a field is its first bytes times 256 and its last byte, and stays below its power of
 -- 256, which up to eight bytes is below 2 ^ 64.
-use mathlib.Core.Path.{◌≡◌, sym, ◌∙◌, ap}
-use mathlib.Core.List.{List}
-use Prim.Native.Nat.{ℕ, ◌+◌, ◌*◌, ◌≤◌, ◌<◌, ◌^◌}
-use native.Mathlib.Nat.{pow-suc, pow-le-pow_right}
-use native.Mathlib.Numerals.{add-one}
-use native.Mathlib.Omega.{arith}
-use lib.Dec.{lit<}
-use lib.ListN.{get_or}
+use Rattle.std.proofs.Common.{◌≡◌, ℕ, ◌+◌, ◌*◌, ◌≤◌, ◌<◌, ◌^◌, List, get_or, sym, ◌∙◌, ap, add-one, pow-suc, lit<, arith}
+use Rattle.std.proofs.Math.Nat.{pow-le-pow_right}
 use Rattle.rules.specs.Forms.{field_of}
 
 -- one byte more

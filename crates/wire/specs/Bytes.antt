@@ -55,9 +55,9 @@ all-eight : (x : ℕ) → all_eight (swapped_of 8 x) ≡ bytes_of 8 x
 unfolding lowest_first
 all-eight x = rw div-one at (bytes-swapped 8 x)
 
-pub laid_out : (f : EventForm)
+pub laid_out-is : (f : EventForm)
     → laid_out f.kind f.pad f.name (swapped_of 8 f.code) (swapped_of 8 f.bits) (swapped_of 8 f.time) ≡ form_bytes f
 unfolding form_bytes bytes_of
-laid_out f =
+laid_out-is f =
     ap (λ (l : List ℕ). 0 ∷ 20 ∷ 1 ∷ f.kind ∷ f.pad ∷ f.name ∷ l)
     (cc (upper-four f.code, upper-four f.bits, all-eight f.time))

@@ -1,0 +1,11 @@
+-- `pad::seek_six` meets its contract, by what the middle holds: two places are left behind it, and three before it.
+use Rattle.std.proofs.Common.{rules}
+use Rattle.pad.specs.Search.{sought-behind, sought-before, sought-half, sought-none}
+use Rattle.pad.proofs.seek_six.Goals as goal
+
+pub returns-then-codes-start : goal.returns-then-codes-start
+returns-then-codes-start c = sought-behind _ (search rules) c.if-codes-start.true c.seek_two.ensures
+
+pub returns : goal.returns
+returns c =
+    sought-before _ (search rules) c.if-codes-start.false (sought-half c.half_of-one.ensures (sought-half c.half_of.ensures sought-none))

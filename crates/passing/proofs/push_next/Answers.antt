@@ -1,0 +1,6 @@
+-- `passing::push_next` meets its contract: the event is pushed where one follows, else nothing.
+use Rattle.queueing.specs.Queued.{pushed_none}
+use Rattle.passing.proofs.push_next.Goals as goal
+
+pub returns : goal.returns
+returns c = rw c.if-t.false pushed_none
