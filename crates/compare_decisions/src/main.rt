@@ -2,11 +2,12 @@
 // how many were played and how many came out wrong.
 #![tactic(auto)]
 
-ghost use Rattle.std.specs.Prelude.{◌+◌, ◌≤◌};
+ghost use Rattle.std.specs.Prelude.{◌+◌, ◌≤◌, IfOk};
 
 use filters::dpad;
-use libc::{STDIN_FILENO, STDOUT_FILENO};
 use rules::{AxisData, ButtonData, Element, Event, EventType, Flags, Partner, RawRecord, View};
+use std::io;
+use std::io::{Print, Read};
 
 // how many cases the list has of each kind
 const CASES: u64 = 2000;
@@ -376,51 +377,62 @@ fn right(kind: u8, case: &[u8; 104]) -> bool {
     }
 }
 
+// Whether the input has the bytes that fill the room, however few each read gives.
+fn came(input: &mut impl Read, room: &mut [u8]) -> io::Result<bool> {
+    match input.read_exact(room) {
+        Ok(()) => Ok(true),
+        Err(e) => {
+            if e.kind() == io::ErrorKind::UnexpectedEof {
+                Ok(false)
+            } else {
+                Err(e)
+            }
+        }
+    }
+}
+
 // 1 for a case that does not come out as it says, is of another kind or is cut short
-fn fault(kind: u8) -> u64
-    ensures { result ≤ 1 }
+fn fault(input: &mut impl Read, kind: u8) -> io::Result<u64>
+    ensures { IfOk result (λ n. n ≤ 1) }
 {
     let mut case = [0u8; 104];
-    let got = io::read_full(STDIN_FILENO, &mut case);
-    if got < compare_cases::SIZE {
-        return 1;
+    if !came(input, &mut case)? {
+        return Ok(1);
     }
     if case[0] != kind {
-        return 1;
+        return Ok(1);
     }
     if right(kind, &case) {
-        return 0;
+        return Ok(0);
     }
-    1
+    Ok(1)
 }
 
 // how many cases of a kind come out wrong
-fn faults(kind: u8) -> u64 {
+fn faults(input: &mut impl Read, kind: u8) -> io::Result<u64> {
     let mut n: u64 = 0;
     let mut wrong: u64 = 0;
     while n < CASES {
-        wrong += fault(kind);
+        wrong += fault(input, kind)?;
         n += 1;
     }
-    wrong
+    Ok(wrong)
 }
 
-fn report(name: &[u8], wrong: u64) {
-    io::write_all(STDOUT_FILENO, name);
-    io::write_all(STDOUT_FILENO, b" ");
-    io::print_decimal(STDOUT_FILENO, CASES);
-    io::write_all(STDOUT_FILENO, b" ");
-    io::print_decimal(STDOUT_FILENO, wrong);
-    io::write_all(STDOUT_FILENO, b" wrong\n");
+fn report(out: &impl Print, name: &[u8], wrong: u64) -> io::Result<()> {
+    out.write_all(name)?;
+    println!(out; " {CASES} {wrong} wrong")
 }
 
-fn main() {
-    report(b"filters", faults(1));
-    report(b"dpad", faults(2));
-    report(b"jitter", faults(3));
-    report(b"deadzone", faults(4));
-    report(b"filters off", faults(5));
-    report(b"dispatch", faults(6));
-    report(b"state", faults(7));
-    report(b"repeat", faults(8));
+fn main(rt: HostRuntime) -> io::Result<()> {
+    let mut input = rt.stdin();
+    let out = rt.stdout();
+    report(&out, b"filters", faults(&mut input, 1)?)?;
+    report(&out, b"dpad", faults(&mut input, 2)?)?;
+    report(&out, b"jitter", faults(&mut input, 3)?)?;
+    report(&out, b"deadzone", faults(&mut input, 4)?)?;
+    report(&out, b"filters off", faults(&mut input, 5)?)?;
+    report(&out, b"dispatch", faults(&mut input, 6)?)?;
+    report(&out, b"state", faults(&mut input, 7)?)?;
+    report(&out, b"repeat", faults(&mut input, 8)?)
 }

@@ -1,7 +1,7 @@
 -- The bits by masks: a power of two picks the bit out, so `or` puts it up and a difference takes it down; and the lowest of 52 is the lowest of 64, if it is one
 -- of them.
-use Rattle.std.specs.Prelude.{ℕ, zero, suc, ◌+◌, ◌-◌, ◌*◌, ◌/◌, ◌%◌, ◌^◌, ◌<◌, ◌≤◌, min, ◌≡◌, refl, Bool, true, false, cond, eqb}
-use Rattle.std.proofs.Common.{sym, ◌∙◌, ap, shl_exact, pow-suc, one-mul, arith}
+use Rattle.std.specs.Prelude.{ℕ, zero, suc, ◌+◌, ◌-◌, ◌*◌, ◌/◌, ◌%◌, ◌^◌, ◌<◌, ◌≤◌, min, ◌≡◌, refl, true, false, cond, eqb}
+use Rattle.std.proofs.Common.{◌∙◌, ap, shl_exact, pow-suc, one-mul, arith}
 use Rattle.std.specs.Int.Bits.{bit_and, bit_or, or_add_and}
 use Rattle.std.proofs.lemmas.Nat.Bits.{and_high}
 use Rattle.std.specs.Int.Count.{count_trailing_zeros, under}

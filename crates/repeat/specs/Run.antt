@@ -1,5 +1,5 @@
 -- The button records of one pad as a run, in place order, and the first of them that is due.
-use Rattle.std.specs.Prelude.{Bool, true, cond, List, ℕ, zero, suc, ◌+◌, get_or}
+use Rattle.std.specs.Prelude.{true, cond, List, ℕ, zero, suc, ◌+◌, get_or}
 use Rattle.rules.specs.declared.ButtonData.{ButtonData}
 use Rattle.rules.specs.Names.{places_per_pad}
 use Rattle.rules.specs.Hub.{past_button}

@@ -1,4 +1,5 @@
--- `apply_deadzone` meets its contract: where the squares reach 1 the pair comes back, at full tilt (`full-tilt`); else pair and tilt are told by the one magnitude.
+-- `apply_deadzone` meets its contract: where the squares reach 1 the pair comes back, at full tilt (`full-tilt`); else pair and tilt are told by the one
+-- magnitude.
 use Rattle.std.specs.Prelude.{T}
 use Rattle.std.proofs.Common.{sym, subst, ◌∙◌}
 use Rattle.std.specs.Float.{binary32}
