@@ -1,22 +1,17 @@
 -- What appending does to a buffer: it keeps its length, and a text appended behind another is the two laid as one. The idea: a laid text splits the
 -- buffer where it ends, and the second text is laid over what was left there.
-use mathlib.Core.Path.{◌≡◌, refl, sym, ap, ◌∙◌}
-use mathlib.Core.Bool.{Bool, true, false, cond, not}
-use mathlib.Core.List.{List, [], ◌∷◌, ◌++◌, append_assoc}
-use Prim.Native.Nat.{ℕ, ◌+◌, ◌≤◌, ◌<◌}
-use native.Mathlib.Omega.{arith}
-use lib.ListN.{length, take, drop, length-append, length-drop, take-append-drop}
-use lib.Seq.{length-take-le, take_at, drop-append-add, drop-drop}
-use lib.Dec.{leb}
-use borrow.Author.Tests.{le-leb, lt-leb, leb-true, leb-false, not-true, not-false}
+use Rattle.std.proofs.Common.{◌≡◌, refl, sym, ap, ◌∙◌, Bool, true, false, List, [], ◌∷◌, ◌++◌, append_assoc, ℕ, ◌+◌, ◌≤◌, ◌<◌, arith, length, take, drop, length-append, length-drop, leb}
+use Rattle.std.proofs.Math.ListN.{take-append-drop}
+use Rattle.std.proofs.Math.Seq.{length-take-le, take_at, drop-append-add, drop-drop}
+use borrow.Author.Tests.{le-leb, lt-leb, leb-true, leb-false}
 use Rattle.lines.specs.Appending.{laid_over, Appended}
 
 -- what `if !fits(..)` tells where it is taken, and where it is left
-pub lacking : (b : Bool) (n m : ℕ) → b ≡ leb m n → not b ≡ true → n < m
-lacking b n m e t = leb-false m n (sym e ∙ not-true b t)
+pub lacking : (b : Bool) (n m : ℕ) → b ≡ leb m n → b ≡ false → n < m
+lacking b n m e f = leb-false m n (sym e ∙ f)
 
-pub having : (b : Bool) (n m : ℕ) → b ≡ leb m n → not b ≡ false → m ≤ n
-having b n m e t = leb-true m n (sym e ∙ not-false b t)
+pub having : (b : Bool) (n m : ℕ) → b ≡ leb m n → b ≡ true → m ≤ n
+having b n m e t = leb-true m n (sym e ∙ t)
 
 -- the text stands at its place: what `Appended` says where there is room
 pub record Laid (used : ℕ) (text before : List ℕ) (at : ℕ) (after : List ℕ) (next : ℕ) : Type 0 where

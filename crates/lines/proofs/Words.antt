@@ -1,13 +1,6 @@
 -- How long the words and the lines are at most, and the lines of one event more.
-use mathlib.Core.Path.{◌≡◌, ap}
-use mathlib.Core.Bool.{Bool, true, false, cond}
-use mathlib.Core.List.{List, ◌++◌}
-use Prim.Native.Nat.{ℕ, zero, suc, ◌+◌, ◌*◌, ◌/◌, ◌≤◌}
-use native.Mathlib.Omega.{arith}
-use native.Mathlib.Nat.{min-le_right}
-use native.Mathlib.Numerals.{add-one}
-use lib.ListN.{length, drop, length-append}
-use lib.Dec.{eqb}
+use Rattle.std.proofs.Common.{◌≡◌, ap, Bool, true, false, cond, List, ◌++◌, ℕ, zero, suc, ◌+◌, ◌*◌, ◌/◌, ◌≤◌, arith, add-one, length, drop, length-append, eqb}
+use Rattle.std.proofs.Math.Nat.{min-le_right}
 use Rattle.rules.specs.declared.EventForm.{EventForm}
 use Rattle.lines.specs.Letters.{space, newline}
 use Rattle.rules.specs.Forms.{event_fields, event_pressed, event_released, event_repeated, event_changed, event_axis, event_connected, event_disconnected}

@@ -1,5 +1,5 @@
 -- What it is to append a text to a lent buffer at a place. Definitions only.
-use Rattle.std.specs.Prelude.{ℕ, ◌+◌, ◌≤◌, ◌≡◌, Bool, cond, List, ◌++◌, length, take, drop, leb}
+use Rattle.std.specs.Prelude.{ℕ, ◌+◌, ◌≤◌, ◌≡◌, cond, List, ◌++◌, length, take, drop, leb}
 
 -- the buffer with the text over the bytes from the place on; every other byte as it was
 unfoldable pub laid_over : List ℕ → ℕ → List ℕ → List ℕ

@@ -2,9 +2,9 @@
 // its row of the table says (specs/Asked.antt), for every opcode and payload, by the call's own contract: a function here picks the call and reads the payload.
 #![tactic(auto)]
 
-mod down;
 mod held;
 mod old;
+mod pressed;
 mod tilt;
 mod timed;
 
@@ -228,10 +228,10 @@ fn by_pad(head: Head, codes: &[u32; 208], opcode: u8, payload: &[u8]) -> Asked
         result ≡ by_pad (hub_of head (listed codes.now kinds names renames) t) opcode payload.now }
 {
     if opcode == DOWN {
-        return down::down(head, payload);
+        return pressed::down(head, payload);
     }
     if opcode == LOWEST {
-        return down::lowest(head, codes, payload);
+        return pressed::lowest(head, codes, payload);
     }
     if opcode == OLD {
         return old::old(head, payload);

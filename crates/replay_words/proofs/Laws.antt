@@ -1,10 +1,5 @@
 -- What the proofs of printed pieces go by: an append of `lines` lays one piece, and pieces printed behind others are the two lists printed as one.
-use mathlib.Core.Path.{◌≡◌, refl, sym, ap, ◌∙◌}
-use mathlib.Core.Bool.{Bool, true, false}
-use mathlib.Core.List.{List, [], ◌∷◌, ◌++◌}
-use Prim.Native.Nat.{ℕ, ◌+◌}
-use lib.ListN.{length}
-use lib.Dec.{leb}
+use Rattle.std.proofs.Common.{◌≡◌, refl, sym, ap, ◌∙◌, Bool, true, false, List, [], ◌∷◌, ◌++◌, ℕ, ◌+◌, length, leb}
 use Rattle.lines.specs.Appending.{Appended}
 use Rattle.replay_words.specs.Pieces.{Piece, piece, Written, written, laid, laid_all}
 

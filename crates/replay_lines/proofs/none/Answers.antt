@@ -1,0 +1,6 @@
+-- `none` prints one piece.
+use Rattle.replay_words.proofs.Laws.{lays}
+use Rattle.replay_lines.proofs.none.Goals as goal
+
+pub returns : goal.returns
+returns c = lays c.append.ensures
