@@ -145,7 +145,7 @@ fn positive(bits: u32) -> f32
 }
 
 // IEEE 754's square_root, from bits, for every f32
-#[tactic(auto, unfolding(numbers::specs::Root::sqrt_of))]
+#[tactic(auto, using(crate::proofs::Told::minus_root))]
 pub fn sqrt(x: f32) -> f32
     ensures { result ≡ sqrt_of x }
 {

@@ -1,8 +1,5 @@
 -- What the loops' invariants go by: the pieces of one number more.
-use mathlib.Core.Path.{◌≡◌}
-use mathlib.Core.List.{List}
-use Prim.Native.Nat.{ℕ, ◌+◌}
-use native.Mathlib.Numerals.{add-one}
+use Rattle.std.proofs.Common.{◌≡◌, List, ℕ, ◌+◌, add-one}
 use Rattle.replay_words.specs.Pieces.{Piece, Written, laid_all}
 use Rattle.replay_words.proofs.Laws.{behind}
 use Rattle.replay_dump.specs.Dump.{up_to}
