@@ -1,6 +1,6 @@
 -- Each answer as a plain struct: the refusal's number, 0 where the call was served, and the values, 0 or false where there is none. Definitions, and that each
 -- struct says what the law book's `*Says` says, by computation.
-use Rattle.std.specs.Prelude.{ℕ, suc, ◌≡◌, refl, Bool, true, false, cond, List, [], ◌∷◌, ◌++◌, drop, eqb, Float}
+use Rattle.std.specs.Prelude.{ℕ, ◌≡◌, refl, Bool, true, false, cond, List, [], ◌∷◌, ◌++◌, drop, eqb}
 use Rattle.std.proofs.Common.{ap, append-nil}
 use Rattle.std.specs.Float.{binary32}
 use Rattle.std.specs.Float.Ieee.{to_bits}

@@ -1,6 +1,6 @@
 -- `new` on a hub that is lent: a fresh head and filled arrays are the law book's fresh hub, for each outcome of the call.
 use Rattle.std.specs.Prelude.{ℕ, zero, suc, ◌≤◌, ◌<◌, ◌≡◌, refl, Bool, List, replicate, Float}
-use Rattle.std.proofs.Common.{sym, ◌∙◌, ap, arith}
+use Rattle.std.proofs.Common.{arith}
 use Rattle.std.proofs.Math.Bool.{false}
 use Rattle.numbers.specs.Constants.{zero32, one32}
 use Rattle.rules.specs.declared.Hub.{Hub}
