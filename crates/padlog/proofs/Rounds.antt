@@ -1,12 +1,6 @@
 -- A turn of padlog's loop: what is printed already and what is left to print make the whole text, before the turn and after it, or at the end.
-use Prim.Native.Nat.{ℕ, zero, suc, ◌+◌, ◌*◌, ◌/◌, ◌≤◌, min}
-use mathlib.Core.Path.{◌≡◌, refl, sym, ap, subst, ◌∙◌}
-use mathlib.Core.Bool.{Bool, true, false, cond}
-use mathlib.Core.List.{List, ◌++◌, append_assoc, append-nil}
-use native.Mathlib.Nat.{min-eq_left}
-use native.Mathlib.Omega.{arith}
-use lib.ListN.{length, take}
-use lib.Dec.{eqb}
+use Rattle.std.proofs.Common.{ℕ, suc, ◌+◌, ◌*◌, ◌≤◌, ◌≡◌, sym, ap, subst, ◌∙◌, cond, List, ◌++◌, append_assoc, append-nil, arith, length, take, eqb}
+use Rattle.std.proofs.Math.Nat.{min-eq_left}
 use borrow.Author.Tests.{eq-eqb, ne_eqb}
 use Rattle.rules.specs.declared.Hub.{Hub}
 use Rattle.rules.specs.Pump.{Run}
@@ -65,8 +59,8 @@ module _ (batch whole : List ℕ) (h : Hub) (place : ℕ) (out : List ℕ) (step
     unfolding rounds_of printed
     to-come = rw (et, ← er)
 
-    pub goes_on : t.ends ≡ goes_on → Standing batch whole r.pumped.hub t.place r.out (steps + t.steps) text' at' left
-    goes_on e =
+    pub goes-on : t.ends ≡ goes_on → Standing batch whole r.pumped.hub t.place r.out (steps + t.steps) text' at' left
+    goes-on e =
         let room : at + (69936 * suc left + 50) ≤ 559538 = s.room in
         let few : steps + 65535 * suc left ≤ 524280 = s.few in
         let made : t.steps ≤ 65535 = steps-few in

@@ -1,20 +1,16 @@
 -- padlog's whole text, by what registration answers.
-use Prim.Native.Nat.{ℕ, ◌+◌, ◌≤◌}
-use mathlib.Core.Path.{◌≡◌, refl, sym, ap, ◌∙◌}
-use mathlib.Core.Bool.{true, false}
-use mathlib.Core.List.{List, ◌++◌}
-use native.Mathlib.Omega.{arith}
-use lib.ListN.{length, take, drop}
-use lib.Ieee.{binary32, of_bits}
+use Rattle.std.proofs.Common.{ℕ, ◌+◌, ◌≤◌, ◌≡◌, sym, ap, ◌∙◌, true, false, List, ◌++◌, arith, length, take, drop}
+use Rattle.std.specs.Float.{binary32}
+use Rattle.std.specs.Float.Ieee.{of_bits}
 use Rattle.rules.specs.declared.Answered.{Answered}
 use Rattle.rules.specs.declared.Registered.{Registered}
-use Rattle.rules.specs.declared.RegisterAnswer.TheVariants as register_answer
 use Rattle.rules.specs.Calls.{new_of, register_of}
 use Rattle.lines.specs.Letters.{newline}
 use Rattle.lines.specs.Text.{sheet_word, sheet_line, number_text}
 use Rattle.lines.specs.Appending.{Appended}
 use Rattle.lines.proofs.Laws.{Laid, laid, laid-take, appended-length}
 use Rattle.padlog.specs.Log.{Told, sheet_end, desk_hub, rounds, rounds_of, log_by, log_of}
+use Rattle.rules.specs.declared.RegisterAnswer.TheVariants as register_answer
 
 module _ (input out : List ℕ) (end : ℕ) (n : Answered) (r : Registered) (ee : end ≡ sheet_end input)
     (en : n ≡ new_of (of_bits binary32 0x3f400000) (of_bits binary32 0x3f000000) false true true) (er : r ≡ register_of n.hub (take end input)) where

@@ -108,10 +108,10 @@ too_long : (left : ℕ) (h : Hub) (batch : List ℕ) (place : ℕ) (out : List �
     → Ends (rounds_of (suc left) h batch place out steps)
 unfolding rounds_of pump_all pump_of pump_refusal
 too_long left h batch place out steps long =
-    call_ends (pump_all h batch place out) steps _ (λ e. absurd (goes_on (rw (lt-ltb buffer_limit (length batch) long) at e)))
+    call_ends (pump_all h batch place out) steps _ (λ e. absurd (goes-on (rw (lt-ltb buffer_limit (length batch) long) at e)))
   where
-    goes_on : ◌≡◌ {A = ℕ} 2 0 → ⊥
-    goes_on e = omega arith
+    goes-on : ◌≡◌ {A = ℕ} 2 0 → ⊥
+    goes-on e = omega arith
 
 -- ---- the program
 

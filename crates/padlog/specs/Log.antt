@@ -1,5 +1,5 @@
 -- What padlog prints for its input: one sheet, then one batch. Definitions only.
-use Rattle.std.specs.Prelude.{ℕ, zero, suc, ◌+◌, ◌≤◌, min, ◌≡◌, Bool, true, false, cond, List, [], ◌++◌, length, take, drop, eqb, Float}
+use Rattle.std.specs.Prelude.{ℕ, zero, suc, ◌+◌, ◌≤◌, min, ◌≡◌, true, false, cond, List, [], ◌++◌, length, take, drop, eqb}
 use Rattle.std.specs.Float.{binary32}
 use Rattle.std.specs.Float.Ieee.{of_bits}
 use Rattle.rules.specs.declared.Hub.{Hub}

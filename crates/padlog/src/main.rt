@@ -1,17 +1,18 @@
 // Document 01's padlog: "reads standard input, one sheet and then one batch", and prints a line per event and a last line. All its work is `log`, on
-// lent slices, which holds the hub's arrays and lends them to each call; `main` reads and writes.
+// lent slices, which holds the hub's arrays and lends them to each call; `main` reads and writes, and ends with an I/O error where a read or a write fails.
 #![tactic(auto)]
 
-ghost use Rattle.std.specs.Prelude.{◌≡◌, ◌+◌, ◌^◌, ◌≤◌, ◌<◌, length};
+ghost use Rattle.std.specs.Prelude.{◌≡◌, ◌+◌, ◌^◌, ◌≤◌, ◌<◌, length, IfOk};
 ghost use Rattle.hub.specs.Lent.{listed, columns, hub_of};
 ghost use Rattle.lines.specs.Appending.{Appended};
 ghost use Rattle.padlog.specs.Log.{Told, sheet_end, tally_of, last_line, rounds_of, rounds, log_of};
 
 use columns::{Marks, QueueBytes, QueueCodes, Times, Values};
 use hub::Head;
-use libc::{STDIN_FILENO, STDOUT_FILENO};
 use lines::NEWLINE;
 use rules::{PumpAnswer, RegisterAnswer};
+use std::io;
+use std::io::Read;
 
 // "Allowance 0..65,535 steps"
 const ALLOWANCE: u16 = 65535;
@@ -219,18 +220,35 @@ fn log(input: &[u8], out: &mut [u8; 16384], text: &mut [u8; 559538]) -> usize
     }
 }
 
+// Reads until the buffer is full or the input ends, and answers how many bytes stand at its start.
+fn read_full(stdin: &mut impl Read, input: &mut [u8]) -> io::Result<usize>
+    ensures { IfOk result (λ n. n ≤ length input.new) }
+{
+    let mut done = 0;
+    while done < input.len() {
+        let n = stdin.read(&mut input[done..])?;
+        if n == 0 {
+            break;
+        }
+        done += n;
+    }
+    Ok(done)
+}
+
 // Reads and forgets, and answers whether something came.
-fn skipped() -> bool {
-    let mut rest = io::buffer();
-    libc::read(STDIN_FILENO, &mut rest) > 0
+fn skipped(stdin: &mut impl Read) -> io::Result<bool> {
+    let mut rest = [0u8; 4096];
+    let got = stdin.read(&mut rest)?;
+    Ok(got > 0)
 }
 
 // What is left of the input changes nothing: where the buffer of `main` is full, the batch is too long already.
-fn skip_all() {
+fn skip_all(stdin: &mut impl Read) -> io::Result<()> {
     let mut turns = u64::MAX;
-    while turns > 0 && skipped() {
+    while turns > 0 && skipped(stdin)? {
         turns -= 1;
     }
+    Ok(())
 }
 
 // the longest sheet's 2 + 65,535 bytes, the longest batch's 16,384, and one more
@@ -240,12 +258,13 @@ fn input_buffer() -> [u8; 81922]
     [0; 81922]
 }
 
-fn main() {
+fn main(rt: HostRuntime) -> io::Result<()> {
     let mut input = input_buffer();
-    let size = io::read_full(STDIN_FILENO, &mut input);
-    skip_all();
+    let mut stdin = rt.stdin();
+    let size = read_full(&mut stdin, &mut input)?;
+    skip_all(&mut stdin)?;
     let mut out = [0u8; 16384];
     let mut text = [0u8; 559538];
     let n = log(&input[..size], &mut out, &mut text);
-    io::write_all(STDOUT_FILENO, &text[..n]);
+    rt.write_all(&text[..n])
 }
