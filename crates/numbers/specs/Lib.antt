@@ -10,5 +10,4 @@ pub mod RootTable
 pub mod Whole
 pub mod Order
 pub mod NoNan
-pub mod Bounds
 pub mod Zeros

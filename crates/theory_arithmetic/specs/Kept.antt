@@ -15,7 +15,7 @@ use Rattle.numbers.specs.Scale.{range_of, plus_odd, threshold_of}
 use Rattle.numbers.specs.Order.{not-below}
 use Rattle.numbers.specs.NoNan.{divisor}
 use Rattle.numbers.specs.Whole.{difference, plain}
-use Rattle.numbers.specs.Bounds.{range-divides}
+use Rattle.numbers.proofs.Bounds.{range-divides}
 
 -- no NaN, and without the sign
 abbrev pub plus : Float → Bool
