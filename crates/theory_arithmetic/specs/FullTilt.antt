@@ -1,7 +1,7 @@
 -- Full tilt (W-205) needs no root: where the sum of the squares is 1 or more the magnitude is held to 1, and with a threshold t from 0 up to below 1 the pair comes
 -- back as it was, since ((1 - t) / (1 - t)) / 1 is 1. By units of 2 ^ -149: the root of what is at least 1 is at least 1, as 1 is a value.
 use Rattle.std.specs.Prelude.{◌≡◌, refl, Bool, true, false, ◌&&◌, ℕ, ◌-◌, ◌*◌, ◌≤◌, ◌<◌, T, eqb, Float}
-use Rattle.std.proofs.Common.{sym, ap, ◌∙◌, subst, le_refl, le_of_lt, le_antisymm, lt_of_lt_of_le, mul-le-mul_right, arith, eqb-true}
+use Rattle.std.proofs.Common.{ap, ◌∙◌, subst, le_refl, le_of_lt, le_antisymm, lt_of_lt_of_le, mul-le-mul_right, arith, eqb-true}
 use Rattle.std.proofs.lemmas.Bool.{false≢true}
 use Rattle.std.specs.Float.{nan, inf, fin, binary32}
 use Rattle.std.specs.Float.Ieee.{up, down, add, sub, mul, div, lt, le, eq, of_bits, fits}
@@ -17,7 +17,7 @@ use Rattle.numbers.specs.declared.Pair.{Pair}
 use Rattle.numbers.specs.declared.Tilted.{Tilted}
 use Rattle.numbers.specs.declared.Tilt.TheVariants.{Full}
 use Rattle.binary32.specs.Values.{held}
-use Rattle.binary32.specs.Nearest.{nearest-root, sqrt-fits}
+use Rattle.binary32.specs.Nearest.{nearest-root}
 use Rattle.binary32.specs.Bounds as Root
 use Rattle.theory_arithmetic.specs.Units.{one, one-pos, one-held}
 use Rattle.theory_arithmetic.specs.Rounding.{valued, same_units}

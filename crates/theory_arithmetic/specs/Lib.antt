@@ -12,5 +12,4 @@ pub mod Kept
 pub mod Unmoved
 pub mod FullTilt
 pub mod Proper
-pub mod ProperDeadzone
 pub mod Trigger

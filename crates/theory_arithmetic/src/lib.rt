@@ -1,2 +1,2 @@
-// Theorems about the definitions of `numbers`; the files stand in specs/, and there is no function.
+// Theorems about the definitions of `numbers`; the files stand in specs/ and proofs/, and there is no function.
 #![tactic(auto)]

@@ -1,7 +1,6 @@
--- Events and state do not change (W-205): a pump that notes the report as it goes, in one walk, makes the run of `Pump.antt`, and reports what `pump_tilt` says. By
--- one induction over what is left of the allowance for each, since a step writes the report and reads nothing of it.
+-- Events and state do not change (W-205): a pump that notes the report as it goes, in one walk, makes the run of `Pump.antt` (and reports what `pump_tilt` says:
+-- `tilt-is` of `proofs/Along`). By one induction over what is left of the allowance, since a step writes the report and reads nothing of it.
 use Rattle.std.specs.Prelude.{ℕ, zero, suc, List, ◌≡◌, refl, length}
-use Rattle.std.proofs.Common.{◌∙◌, ap}
 use Rattle.numbers.specs.declared.Tilt.{Tilt}
 use Rattle.numbers.specs.declared.Tilt.TheVariants.{Unmet}
 use Rattle.rules.specs.declared.Hub.{Hub}
@@ -9,7 +8,7 @@ use Rattle.rules.specs.declared.PumpAnswer.TheVariants.{Refused}
 use Rattle.rules.specs.Refusals.{pump_refusal}
 use Rattle.rules.specs.Step.{next_record_of}
 use Rattle.rules.specs.Pump.{Progress, Run, Verdict, going, stopping, refusing, verdict_of, stepped, ended, ended_by, run_of, start_of, pump_by, pump_of}
-use Rattle.rules.specs.Tilt.{latest, step_met, noted, tilt_run, pump_tilt_by, pump_tilt}
+use Rattle.rules.specs.Tilt.{latest, step_met, noted}
 
 -- ---- the pump with the report inside
 
@@ -73,23 +72,6 @@ run-stays h s place out allowance = by (pump_refusal (length s) (length out) pla
 -- ---- its report
 
 -- what a step notes is what the law book notes of it
-step-notes : (s : List ℕ) (n : Noting) → (noting_step s n).tilt ≡ noted s n.progress n.tilt
+pub step-notes : (s : List ℕ) (n : Noting) → (noting_step s n).tilt ≡ noted s n.progress n.tilt
 unfolding noting_step noted
 step-notes s n = refl
-
-same-tilt : (left : ℕ) (v : Verdict) (s : List ℕ) (n : Noting) → (noting_run left v s n).tilt ≡ tilt_run left v s n.progress n.tilt
-unfolding noting_run tilt_run
-same-tilt zero v s n = refl
-same-tilt (suc left) going s n =
-    same-tilt left (verdict_of left s (noting_step s n).progress) s (noting_step s n)
-    ∙ ap (λ (t : Tilt). tilt_run left (verdict_of left s (stepped s n.progress)) s (stepped s n.progress) t) (step-notes s n)
-same-tilt (suc left) (stopping why) s n = refl
-same-tilt (suc left) (refusing number) s n = refl
-
-pub tilt-is : (h : Hub) (s : List ℕ) (place : ℕ) (out : List ℕ) (allowance : ℕ) → (noting_of h s place out allowance).tilt ≡ pump_tilt h s place out allowance
-unfolding noting_of pump_tilt
-tilt-is h s place out allowance = by (pump_refusal (length s) (length out) place)
-  where
-    by : (number : ℕ) → (noting_by number h s place out allowance).tilt ≡ pump_tilt_by number h s place out allowance
-    by zero = same-tilt allowance (verdict_of allowance s (start_of h place out)) s (beginning h place out)
-    by (suc number) = refl

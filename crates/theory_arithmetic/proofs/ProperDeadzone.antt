@@ -15,7 +15,8 @@ use Rattle.theory_arithmetic.specs.Factor.{factor}
 use Rattle.theory_arithmetic.specs.Operations.{mul-units}
 use Rattle.theory_arithmetic.specs.Ends.{Size, size_of, outside}
 use Rattle.theory_arithmetic.specs.Magnitude.{Magnitude, magnitude}
-use Rattle.theory_arithmetic.specs.Deadzone.{Stick, norm-is}
+use Rattle.theory_arithmetic.specs.Deadzone.{Stick}
+use Rattle.theory_arithmetic.proofs.Deadzone.{norm-is}
 use Rattle.theory_arithmetic.specs.Kept.{plus, round-plus}
 use Rattle.theory_arithmetic.specs.Proper.{Proper, zero-proper}
 

@@ -1,0 +1,3 @@
+pub mod ProperDeadzone
+pub mod Deadzone
+pub mod Trigger
