@@ -13,8 +13,8 @@ use Rattle.rules.specs.Names.{buffer_limit}
 use Rattle.rules.specs.Forms.{event_size}
 use Rattle.rules.specs.Refusals.{pump_refusal}
 use Rattle.rules.specs.Step.{next_record_of, step_refusal}
-use Rattle.rules.specs.Pump.{Progress, Run, Verdict, going, stopping, refusing, verdict_by, verdict_of, stop_of, stop_answer, ended, ended_by, stepped, run_of, start_of, pump_by, pump_of}
-use Rattle.rules.specs.Tilt.{noted, tilt_run, pump_tilt_by, pump_tilt}
+use Rattle.rules.specs.Pump.{Progress, Run, Verdict, going, stopping, refusing, verdict_by, verdict_of, stop_of, stop_answer, ended, ended_by, run_of, start_of, pump_by, pump_of}
+use Rattle.rules.specs.Tilt.{tilt_run, pump_tilt_by, pump_tilt}
 
 -- a run, and what is reported beside it
 pub record Reported : Type 0 where
@@ -28,7 +28,7 @@ leaves p out tilt = record { run = record { pumped = p; out = out }; tilt = tilt
 abbrev pub standing : Hub → ℕ → List ℕ → ℕ → ℕ → Progress
 standing h at out events steps = record { hub = h; at = at; out = out; events = events; steps = steps }
 
-abbrev run_by : ℕ → Verdict → List ℕ → Progress → Tilt → Reported
+abbrev pub run_by : ℕ → Verdict → List ℕ → Progress → Tilt → Reported
 run_by left v s p before = record { run = run_of left v s p; tilt = tilt_run left v s p before }
 
 -- the run that is left from where the pump stands, `before` being what was met so far
@@ -54,7 +54,7 @@ refuses zero zero z h = absurd (omega arith)
 refuses zero (suc number) z h = refl
 refuses (suc why) refusal z h = absurd (omega arith)
 
-goes : (why refusal : ℕ) → why ≤ 0 → refusal ≤ 0 → verdict_by why refusal ≡ going
+pub goes : (why refusal : ℕ) → why ≤ 0 → refusal ≤ 0 → verdict_by why refusal ≡ going
 goes zero zero z h = refl
 goes zero (suc number) z h = absurd (omega arith)
 goes (suc why) refusal z h = absurd (omega arith)
@@ -104,11 +104,11 @@ module _ (h : Hub) (s : List ℕ) (at : ℕ) (out : List ℕ) (events steps left
   here = standing h at out events steps
 
   -- the verdict, by the reason that the code worked out
-  verdict-is : verdict_of left s here ≡ verdict_by why (step_refusal h (next_record_of h.waiting s at))
+  pub verdict-is : verdict_of left s here ≡ verdict_by why (step_refusal h (next_record_of h.waiting s at))
   unfolding verdict_of
   verdict-is = rw stop
 
-  by-verdict : {v : Verdict} → verdict_of left s here ≡ v → rest left s here before ≡ run_by left v s here before
+  pub by-verdict : {v : Verdict} → verdict_of left s here ≡ v → rest left s here before ≡ run_by left v s here before
   by-verdict e = ap (λ (v : Verdict). run_by left v s here before) e
 
   pub run-stops : {a : PumpAnswer} → 0 < why → a ≡ stop_answer why at events steps → leaves (record { hub = h; answer = a }) out before ≡ rest left s here before
@@ -122,25 +122,6 @@ module _ (h : Hub) (s : List ℕ) (at : ℕ) (out : List ℕ) (events steps left
     run-refuses p =
         sym
         (by-verdict (verdict-is ∙ ap (verdict_by why) (sym refusal) ∙ refuses why number z p) ∙ ends-refusing left number s here before)
-
-    goes_on : (k : ℕ) (p : Progress) → run_by (suc k) going s p before ≡ rest k s (stepped s p) (noted s p before)
-    unfolding run_of tilt_run
-    goes_on k p = refl
-
-    -- a step more
-    pub run-goes :
-        {p : Progress} {tilt : Tilt} →
-        number ≤ 0 →
-        p ≡ stepped s here →
-        tilt ≡ noted s here before →
-        rest left s here before ≡ rest (left - 1) s p tilt
-    run-goes {p} y e met =
-        let g = roomy h.waiting (length s - at) (length out - event_size * events) left stop z in
-        let k : left ≡ suc (left - 1) = omega arith in
-        rw (e, met)
-        (by-verdict (verdict-is ∙ ap (verdict_by why) (sym refusal) ∙ goes why number z y)
-        ∙ ap (λ (n : ℕ). run_by n going s here before) k
-        ∙ goes_on (left - 1) here)
 
 -- ---- the call
 
