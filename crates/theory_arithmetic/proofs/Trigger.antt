@@ -20,7 +20,7 @@ use Rattle.numbers.specs.Scale.{low_of, range_of, above_of, button_scaled_of, bu
 use Rattle.numbers.specs.Deadzone.{deadzone_of}
 use Rattle.numbers.specs.NoNan.{divisor}
 use Rattle.numbers.specs.Whole.{Whole, cast, cast-minus, difference, plain}
-use Rattle.numbers.specs.Bounds.{button-value-held}
+use Rattle.numbers.proofs.Bounds.{button-value-held}
 use Rattle.theory_arithmetic.specs.Units.{one, too_large, one-pos, power-held}
 use Rattle.theory_arithmetic.specs.Rounding.{rounded, valued, at_most, at_least}
 use Rattle.theory_arithmetic.specs.Operations.{div-units}
