@@ -2,11 +2,9 @@
 // those of an independent reader (`oracle/reader.py`, whose head says what a case is).
 #![tactic(auto)]
 
-use libc::{STDIN_FILENO, STDOUT_FILENO};
 use rules::{EventRead, MALFORMED, PADS, PLACES_PER_PAD};
-
-// a case opens with its kind and the length of the rest in 4 bytes
-const OPENING: usize = 5;
+use std::io;
+use std::io::{Print, Read};
 
 const ARCHIVED_SHEET: u8 = 1;
 
@@ -146,63 +144,79 @@ fn met_refusal(kind: u8, case: &[u8]) -> u8 {
 
 // ---- the list
 
-fn say(number: u8) {
+fn say(out: &impl Print, number: u8) -> io::Result<()> {
     if number == 0 {
-        io::write_all(STDOUT_FILENO, b"ok\n");
+        println!(out; "ok")
     } else {
-        io::print_decimal(STDOUT_FILENO, number as u64);
-        io::write_all(STDOUT_FILENO, b"\n");
+        println!(out; "{number}")
     }
 }
 
-fn judge(kind: u8, case: &[u8]) {
+fn judge(out: &impl Print, kind: u8, case: &[u8]) -> io::Result<()> {
     if kind == ARCHIVED_SHEET {
-        io::write_all(STDOUT_FILENO, b"SHEET ");
-        say(sheets::sheet_refusal(true, case));
-        return;
+        print!(out; "SHEET ")?;
+        return say(out, sheets::sheet_refusal(true, case));
     }
     if kind == NEW_SHEET {
-        io::write_all(STDOUT_FILENO, b"SHEET ");
-        say(sheets::sheet_refusal(false, case));
-        return;
+        print!(out; "SHEET ")?;
+        return say(out, sheets::sheet_refusal(false, case));
     }
     if kind == RECORD {
-        io::write_all(STDOUT_FILENO, b"RECORD ");
+        print!(out; "RECORD ")?;
     } else {
-        io::write_all(STDOUT_FILENO, b"EVENT ");
+        print!(out; "EVENT ")?;
     }
-    say(met_refusal(kind, case));
+    say(out, met_refusal(kind, case))
+}
+
+// Whether the input has the bytes that fill the room, however few each read gives.
+fn came(input: &mut impl Read, room: &mut [u8]) -> io::Result<bool> {
+    match input.read_exact(room) {
+        Ok(()) => Ok(true),
+        Err(e) => {
+            if e.kind() == io::ErrorKind::UnexpectedEof {
+                Ok(false)
+            } else {
+                Err(e)
+            }
+        }
+    }
 }
 
 // Reads so many bytes to the front of the room, and answers whether all came.
-fn filled(room: &mut [u8], size: usize) -> bool {
+fn filled(input: &mut impl Read, room: &mut [u8], size: usize) -> io::Result<bool> {
     if room.len() < size {
-        return false;
+        return Ok(false);
     }
-    io::read_full(STDIN_FILENO, &mut room[..size]) == size
+    came(input, &mut room[..size])
 }
 
 // Reads and judges the next case, and answers whether there was one.
-fn next_case(room: &mut [u8]) -> bool {
+fn next_case(input: &mut impl Read, out: &impl Print, room: &mut [u8]) -> io::Result<bool> {
+    // its kind, and the length of the rest in 4 bytes
     let mut opening = [0u8; 5];
-    if io::read_full(STDIN_FILENO, &mut opening) < OPENING {
-        return false;
+    if !came(input, &mut opening)? {
+        return Ok(false);
     }
     let size = wire::read4(&opening, 1) as usize;
-    if !filled(room, size) {
-        return false;
+    if !filled(input, room, size)? {
+        return Ok(false);
     }
     if room.len() < size {
-        return false;
+        return Ok(false);
     }
-    judge(opening[0], &room[..size]);
-    true
+    judge(out, opening[0], &room[..size])?;
+    Ok(true)
 }
 
-fn main() {
-    let mut room = io::buffer();
-    let mut turns = u64::MAX;
-    while turns > 0 && next_case(&mut room) {
-        turns -= 1;
+fn main(rt: HostRuntime) -> io::Result<()> {
+    let mut input = rt.stdin();
+    let out = rt.stdout();
+    let mut room = [0u8; 4096];
+    for _ in 0..u64::MAX {
+        if !next_case(&mut input, &out, &mut room)? {
+            break;
+        }
     }
+    Ok(())
 }
