@@ -13,7 +13,8 @@ use Rattle.rules.specs.Refusals.{pump_refusal}
 use Rattle.rules.specs.Step.{next_record_of, step_refusal}
 use Rattle.rules.specs.Pump.{Progress, stepped, stop_of, stop_answer}
 use Rattle.rules.specs.Tilt.{noted}
-use Rattle.pump_laws.specs.Runs.{Reported, leaves, rest, standing, call, Roomy, roomy, run-stops, run-refuses, run-goes, accepted, pump-runs}
+use Rattle.pump_laws.specs.Runs.{Reported, leaves, rest, standing, call, Roomy, roomy, run-stops, run-refuses, accepted, pump-runs}
+use Rattle.pump_laws.proofs.Runs.{run-goes}
 use Rattle.pump_laws.specs.Going.{Going, last_allowance}
 use Rattle.hub.specs.declared.Head.{Head}
 use Rattle.hub.specs.Lent.{Listed, Columns, hub_of}
