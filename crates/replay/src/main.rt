@@ -2,15 +2,13 @@
 // and reads one operation at a time, so its memory is bounded whatever the input's length.
 #![tactic(auto)]
 
-ghost use Rattle.std.specs.Prelude.{◌≡◌, ◌≤◌, length};
+ghost use Rattle.std.specs.Prelude.{◌≡◌, ◌≤◌, length, IfOk};
 
 use columns::{Marks, QueueBytes, QueueCodes, Times, Values};
 use hub::Head;
-use libc::{STDIN_FILENO, STDOUT_FILENO};
 use replay_turns::Game;
-
-// an operation opens with an opcode and the payload's length in 4 bytes
-const OPENING: usize = 5;
+use std::io;
+use std::io::{Print, Read};
 
 // the text is written out once so much of it stands; an operation adds at most 744 lines of events
 const ENOUGH: usize = 131072;
@@ -35,44 +33,58 @@ fn no_more() -> Operation
     }
 }
 
+// Whether the input has the bytes that fill the room, however few each read gives.
+fn came(input: &mut impl Read, room: &mut [u8]) -> io::Result<bool> {
+    match input.read_exact(room) {
+        Ok(()) => Ok(true),
+        Err(e) => {
+            if e.kind() == io::ErrorKind::UnexpectedEof {
+                Ok(false)
+            } else {
+                Err(e)
+            }
+        }
+    }
+}
+
 // The next operation is read. The input ends with the last one; a payload that is too long or cut short ends it too.
-fn next_operation(payload: &mut [u8]) -> Operation
-    ensures { result.size ≤ length payload.new }
+fn next_operation(input: &mut impl Read, payload: &mut [u8]) -> io::Result<Operation>
+    ensures { IfOk result (λ o. o.size ≤ length payload.new) }
 {
+    // an opcode and the payload's length in 4 bytes
     let mut opening = [0u8; 5];
-    let got = io::read_full(STDIN_FILENO, &mut opening);
-    if got < OPENING {
-        return no_more();
+    if !came(input, &mut opening)? {
+        return Ok(no_more());
     }
     let size = wire::read4(&opening, 1) as usize;
     if payload.len() < size {
-        return no_more();
+        return Ok(no_more());
     }
-    let came = io::read_full(STDIN_FILENO, &mut payload[..size]);
-    if came < size {
-        return no_more();
+    if !came(input, &mut payload[..size])? {
+        return Ok(no_more());
     }
-    Operation {
+    Ok(Operation {
         more: true,
         opcode: opening[0],
         size: size,
-    }
+    })
 }
 
 // What stands of the text is written out.
-fn write(text: &[u8], at: usize) {
+fn write(to: &impl Print, text: &[u8], at: usize) -> io::Result<()> {
     if at <= text.len() {
-        io::write_all(STDOUT_FILENO, &text[..at]);
+        to.write_all(&text[..at])?;
     }
+    Ok(())
 }
 
 // The text is written out where it is long enough, and the place for what follows.
-fn flushed(text: &[u8], at: usize) -> usize {
+fn flushed(to: &impl Print, text: &[u8], at: usize) -> io::Result<usize> {
     if at < ENOUGH {
-        return at;
+        return Ok(at);
     }
-    write(text, at);
-    0
+    write(to, text, at)?;
+    Ok(0)
 }
 
 // ---- playing
@@ -136,7 +148,13 @@ fn played(
 }
 
 // Every operation of the input, and the rest of the text at its end.
-fn play_all(payload: &mut [u8], out: &mut [u8], text: &mut [u8]) {
+fn play_all(
+    input: &mut impl Read,
+    to: &impl Print,
+    payload: &mut [u8],
+    out: &mut [u8],
+    text: &mut [u8],
+) -> io::Result<()> {
     let mut codes = [0u32; 208];
     let mut kinds = [0u8; 208];
     let mut names = [0u8; 208];
@@ -153,7 +171,7 @@ fn play_all(payload: &mut [u8], out: &mut [u8], text: &mut [u8]) {
         head: no_head(),
         at: 0,
     };
-    let mut o = next_operation(payload);
+    let mut o = next_operation(input, payload)?;
     let mut turns = u64::MAX;
     while turns > 0 && o.more {
         let size = o.size;
@@ -175,16 +193,18 @@ fn play_all(payload: &mut [u8], out: &mut [u8], text: &mut [u8]) {
             out,
             text,
         );
-        g.at = flushed(text, g.at);
-        o = next_operation(payload);
+        g.at = flushed(to, text, g.at)?;
+        o = next_operation(input, payload)?;
         turns -= 1;
     }
-    write(text, g.at);
+    write(to, text, g.at)
 }
 
-fn main() {
+fn main(rt: HostRuntime) -> io::Result<()> {
+    let mut input = rt.stdin();
+    let to = rt.stdout();
     let mut payload = [0u8; 17408];
     let mut out = [0u8; 16385];
     let mut text = [0u8; 262144];
-    play_all(&mut payload, &mut out, &mut text);
+    play_all(&mut input, &to, &mut payload, &mut out, &mut text)
 }
