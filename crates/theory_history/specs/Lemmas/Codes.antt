@@ -18,7 +18,8 @@ use Rattle.rules.specs.Hub.{element_at}
 use Rattle.rules.specs.Step.{record_kind, updated_of, step_hub}
 use Rattle.rules.specs.Calls.{counted_at}
 use Rattle.theory_calls.specs.Waiting.{waiting_list}
-use Rattle.theory_calls.specs.Reach.{Reached, reached-sound}
+use Rattle.theory_calls.specs.Reach.{Reached}
+use Rattle.theory_calls.proofs.Reach.{reached-sound}
 use Rattle.theory_arithmetic.specs.Proper.{Proper, proper-eq, zero-proper, one-proper}
 use Rattle.theory_registered.specs.Pads.{Desk, reached-desk}
 use Rattle.theory_registered.specs.Triggers.{trigger-zoned}
