@@ -20,7 +20,8 @@ use Rattle.theory_calls.proofs.Queue.{nothing-lost}
 use Rattle.theory_calls.proofs.Reach.{reached-sound}
 use Rattle.pad.specs.Lookup.{place-small}
 use Rattle.theory_registered.specs.Columns.{either-taken}
-use Rattle.theory_registered.specs.Pads.{Desk, reached-desk}
+use Rattle.theory_registered.specs.Pads.{Desk}
+use Rattle.theory_registered.proofs.Pads.{reached-desk}
 use Rattle.theory_history.specs.Lemmas.Turns.{more_of}
 use Rattle.theory_history.specs.Lemmas.Steps.{Ready, look, look_at, front-taken, record-taken, pushes-of}
 use Rattle.theory_history.specs.Lemmas.Waits.{Sheet, sheet_of, All, empty, more, all_append, head_of, tail_of, Fit}
