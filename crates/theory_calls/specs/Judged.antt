@@ -1,28 +1,22 @@
--- What is said of a call that is judged by a refusal: `judged`, for the pump `pump_judged`. For each type of answer one law: what an answer says, by
--- `answer_says` and its like of `rules/specs/Answers.antt`, is what is judged. By cases on the refusal's number, and for the pump by induction on its steps.
-use Rattle.std.specs.Prelude.{ℕ, zero, suc, ◌-◌, ◌*◌, Bool, true, false, cond, not, ◌&&◌, List, [], ◌∷◌, ◌≡◌, refl, eqb, ltb, Float, length}
-use Rattle.std.proofs.Common.{ap, ◌∙◌, arith}
+-- What is said of a call that is judged by a refusal: `judged`, for the pump `pump_judged`. (For each type of answer one law, that what an answer says is what is
+-- judged: `proofs/Judged.antt`.) And no pump ends while it is to go on. By induction on its steps.
+use Rattle.std.specs.Prelude.{ℕ, zero, suc, ◌-◌, ◌*◌, Bool, true, false, cond, ◌&&◌, List, [], ◌∷◌, ◌≡◌, refl, eqb, ltb, length}
+use Rattle.std.proofs.Common.{◌∙◌, arith}
 use Rattle.std.specs.Float.{binary32}
 use Rattle.std.specs.Float.Ieee.{to_bits}
 use Rattle.rules.specs.declared.Hub.{Hub}
-use Rattle.rules.specs.declared.Event.{Event}
 use Rattle.rules.specs.declared.EventForm.{EventForm}
 use Rattle.rules.specs.declared.EventRead.{EventRead}
 use Rattle.rules.specs.declared.EventRead.TheVariants as event_read
 use Rattle.rules.specs.declared.ButtonData.{ButtonData}
 use Rattle.rules.specs.declared.AxisData.{AxisData}
-use Rattle.rules.specs.declared.Answered.{Answered}
-use Rattle.rules.specs.declared.Answer.TheVariants as answer
 use Rattle.rules.specs.Forms.{event_size}
 use Rattle.rules.specs.Refusals.{form_refusal, insert_refusal}
-use Rattle.rules.specs.Events.{event_bytes}
 use Rattle.rules.specs.Step.{next_record_of, step_refusal}
-use Rattle.rules.specs.Pump.{Progress, Verdict, going, stopping, refusing, drained, full, paused, go_on, stop_of, verdict_by, verdict_of}
-use Rattle.rules.specs.Pump.{stepped, ended_by, run_of, start_of, pump_by}
-use Rattle.rules.specs.Repeat.{repeat_by}
-use Rattle.rules.specs.Calls.{register_by, form_place, update_form_by, update_by, insert_form_by, insert_by}
-use Rattle.rules.specs.Queries.{truth_by, value_by, button_by, axis_by, number_by, down_by}
-use Rattle.rules.specs.Answers.{Said, served, refused, bit, answer_says, register_says, pump_says, repeat_says, truth_says, value_says, button_says, axis_says, number_says, down_says}
+use Rattle.rules.specs.Pump.{Progress, Verdict, going, stopping, refusing, drained, full, paused, stop_of, verdict_by, verdict_of}
+use Rattle.rules.specs.Pump.{stepped, start_of}
+use Rattle.rules.specs.Calls.{form_place}
+use Rattle.rules.specs.Answers.{Said, served, refused, bit}
 
 -- the refusal's number alone; where it is 0, the values
 abbrev pub judged : ℕ → List ℕ → Said
@@ -33,65 +27,13 @@ judged (suc number) values = refused (suc number) []
 abbrev pub present : Bool → List ℕ → List ℕ
 present here values = cond here values []
 
--- ---- Done, or the refusal
-
-pub done-said : (call : ℕ → Answered) → (call zero).answer ≡ answer.Done
-    → ((number : ℕ) → (call (suc number)).answer ≡ answer.Refused (suc number))
-    → (number : ℕ) → answer_says (call number).answer ≡ judged number []
-done-said call done refuses zero = ap answer_says done
-done-said call done refuses (suc number) = ap answer_says (refuses number)
-
--- ---- a pad, an event, a truth, a value, a record, a number, what is down
-
-pub register-said : (number : ℕ) (h : Hub) (sheet : List ℕ) → register_says (register_by number h sheet).answer ≡ judged number (h.pads ∷ [])
-register-said zero h sheet = refl
-register-said (suc number) h sheet = refl
-
-pub repeat-said : (number : ℕ) (due : Bool) (e : Event) → repeat_says (repeat_by number due e) ≡ judged number (present due (event_bytes e))
-repeat-said zero true e = refl
-repeat-said zero false e = refl
-repeat-said (suc number) due e = refl
-
-pub truth-said : (number : ℕ) (b : Bool) → truth_says (truth_by number b) ≡ judged number (bit b ∷ [])
-truth-said zero b = refl
-truth-said (suc number) b = refl
-
-pub value-said : (number : ℕ) (here : Bool) (v : Float) → value_says (value_by number here v) ≡ judged number (present here (to_bits binary32 v ∷ []))
-value-said zero true v = refl
-value-said zero false v = refl
-value-said (suc number) here v = refl
+-- ---- the values of a record
 
 abbrev pub button_values : ButtonData → List ℕ
 button_values b = to_bits binary32 b.value ∷ b.stamp ∷ b.counter ∷ bit b.pressed ∷ bit b.repeating ∷ b.since ∷ []
 
-pub button-said : (number : ℕ) (here : Bool) (b : ButtonData) → button_says (button_by number here b) ≡ judged number (present here (button_values b))
-button-said zero true b = refl
-button-said zero false b = refl
-button-said (suc number) here b = refl
-
 abbrev pub axis_values : AxisData → List ℕ
 axis_values a = to_bits binary32 a.value ∷ a.stamp ∷ a.counter ∷ []
-
-pub axis-said : (number : ℕ) (here : Bool) (a : AxisData) → axis_says (axis_by number here a) ≡ judged number (present here (axis_values a))
-axis-said zero true a = refl
-axis-said zero false a = refl
-axis-said (suc number) here a = refl
-
-pub number-said : (number : ℕ) (here : Bool) (x : ℕ) → number_says (number_by number here x) ≡ judged number (present here (x ∷ []))
-number-said zero true x = refl
-number-said zero false x = refl
-number-said (suc number) here x = refl
-
--- a name, or none
-pub name-said : (number : ℕ) (none : Bool) (name : ℕ)
-    → number_says (number_by number (cond none false true) name) ≡ judged number (present (not none) (name ∷ []))
-name-said number true name = number-said number false name
-name-said number false name = number-said number true name
-
--- a count, and whether an axis element is among them
-pub down-said : (number count : ℕ) (axis : Bool) → down_says (down_by number count axis) ≡ judged number (count ∷ bit axis ∷ [])
-down-said zero count axis = refl
-down-said (suc number) count axis = refl
 
 -- ---- update and insert_event: 8 for bytes that are no event, else what the event's fields give
 
@@ -106,14 +48,6 @@ update_refusal h f = form_refusal f h.pads (form_place h f)
 -- the same, then 13
 abbrev pub queue_refusal : Hub → EventForm → ℕ
 queue_refusal h f = insert_refusal f h.pads (form_place h f) h.waiting
-
-pub update-said : (read : EventRead) (h : Hub) → answer_says (update_by read h).answer ≡ judged (event_refusal (update_refusal h) read) []
-update-said (event_read.Form f) h = done-said (λ (number : ℕ). update_form_by number h f) refl (λ (number : ℕ). refl) (update_refusal h f)
-update-said event_read.Malformed h = refl
-
-pub insert-said : (read : EventRead) (h : Hub) → answer_says (insert_by read h).answer ≡ judged (event_refusal (queue_refusal h) read) []
-insert-said (event_read.Form f) h = done-said (λ (number : ℕ). insert_form_by number h f) refl (λ (number : ℕ). refl) (queue_refusal h f)
-insert-said event_read.Malformed h = refl
 
 -- ---- the pump
 
@@ -144,35 +78,6 @@ ending_says (refusing number) p = refused number (p.at ∷ p.events ∷ p.steps 
 abbrev pub pump_judged : ℕ → ℕ → Ending → Said
 pump_judged zero place e = ending_says e.verdict e.progress
 pump_judged (suc number) place e = refused (suc number) (place ∷ 0 ∷ 0 ∷ [])
-
--- the reasons are 1, 2 and 3, and there is no other
-reasons-said : (done short spent : Bool) (refusal : ℕ) (p : Progress)
-    → let v = verdict_by (cond done drained (cond short full (cond spent paused go_on))) refusal in
-    pump_says (ended_by v p).pumped.answer ≡ ending_says v p
-reasons-said true short spent refusal p = refl
-reasons-said false true spent refusal p = refl
-reasons-said false false true refusal p = refl
-reasons-said false false false zero p = refl
-reasons-said false false false (suc number) p = refl
-
-verdict-said : (left : ℕ) (s : List ℕ) (p : Progress) → pump_says (ended_by (verdict_of left s p) p).pumped.answer ≡ ending_says (verdict_of left s p) p
-unfolding verdict_of stop_of
-verdict-said left s p =
-    reasons-said (eqb p.hub.waiting 0 && eqb (length s - p.at) 0) (ltb (length p.out - event_size * p.events) event_size) (eqb left 0)
-    (step_refusal p.hub (next_record_of p.hub.waiting s p.at)) p
-
-run-said : (left : ℕ) (v : Verdict) (s : List ℕ) (p : Progress) → pump_says (ended_by v p).pumped.answer ≡ ending_says v p
-    → pump_says (run_of left v s p).pumped.answer ≡ ending_says (ending_of left v s p).verdict (ending_of left v s p).progress
-unfolding run_of ending_of
-run-said zero v s p here = here
-run-said (suc left) going s p here = run-said left (verdict_of left s (stepped s p)) s (stepped s p) (verdict-said left s (stepped s p))
-run-said (suc left) (stopping why) s p here = here
-run-said (suc left) (refusing number) s p here = here
-
-pub pump-said : (number : ℕ) (h : Hub) (s : List ℕ) (place : ℕ) (out : List ℕ) (allowance : ℕ)
-    → pump_says (pump_by number h s place out allowance).pumped.answer ≡ pump_judged number place (pump_ending h s place out allowance)
-pump-said zero h s place out allowance = run-said allowance _ s (start_of h place out) (verdict-said allowance s (start_of h place out))
-pump-said (suc number) h s place out allowance = refl
 
 -- with the allowance spent a pump is Paused at the latest
 stopping-ends : (why : ℕ) → stopping why ≡ going → ⊥

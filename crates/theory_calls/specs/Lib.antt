@@ -5,7 +5,6 @@ pub mod Reach
 pub mod Unique
 pub mod Machines
 pub mod Judged
-pub mod Said
 pub mod Runs
 pub mod Room
 pub mod Parts

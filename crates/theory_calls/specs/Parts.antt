@@ -24,7 +24,7 @@ use Rattle.rules.specs.Step.{next_record_of, step_event}
 use Rattle.rules.specs.Pump.{Progress, Run, Verdict, going, stopping, refusing, drained, full, stop_of, verdict_of, out_after, stepped_by, stepped, ended_by, run_of, start_of, pump_by, pump_of}
 use Rattle.theory_calls.specs.Machines.{move, both, bare, desk, room, allowed, place_said, events_said, steps_said}
 use Rattle.theory_calls.specs.Runs.{end_of, end_is}
-use Rattle.theory_calls.specs.Room.{Stays, pump-stays}
+use Rattle.theory_calls.specs.Room.{Stays}
 
 -- ---- the statement
 
@@ -186,7 +186,7 @@ lent-on batch out place out' place' ok less inside =
 abbrev following : Run → Run → Run
 following first second = joined (written first) (events_said first.pumped.answer) (steps_said first.pumped.answer) second
 
-pump-by-parts : (number : ℕ) (h : Hub) (s : List ℕ) (place : ℕ) (out : List ℕ) (a b : ℕ) → pump_refusal (length s) (length out) place ≡ number
+pub pump-by-parts : (number : ℕ) (h : Hub) (s : List ℕ) (place : ℕ) (out : List ℕ) (a b : ℕ) → pump_refusal (length s) (length out) place ≡ number
     → let first = pump_by number h s place out a in
     Stays s place out (end_of first) → pump_by number h s place out (a + suc b) ≡ following first (onward first s (suc b))
 unfolding pump_of
@@ -202,7 +202,7 @@ pump-by-parts (suc number) h s place out a b ok w =
     ap (λ (refusal : ℕ). following (pump_by (suc number) h s place out a) (pump_by refusal h s place out (suc b))) (sym ok)
 
 -- with no step allowed a call stands where it began
-idle : (h : Hub) (s : List ℕ) (place : ℕ) (out : List ℕ) → end_of (pump_of h s place out 0) ≡ start_of h place out
+pub idle : (h : Hub) (s : List ℕ) (place : ℕ) (out : List ℕ) → end_of (pump_of h s place out 0) ≡ start_of h place out
 unfolding pump_of run_of
 idle h s place out = by (pump_refusal (length s) (length out) place)
   where
@@ -210,7 +210,7 @@ idle h s place out = by (pump_refusal (length s) (length out) place)
     by zero = end_is (verdict_of 0 s (start_of h place out)) (start_of h place out)
     by (suc number) = refl
 
--- ---- the theorem
+-- ---- what the two parts come to (the theorem: `proofs/Parts.antt`, `pump-parts`)
 
 more-says : (events steps : ℕ) (a : PumpAnswer)
     → (place_said (more events steps a) ≡ place_said a) × (events_said (more events steps a) ≡ events + events_said a)
@@ -220,7 +220,7 @@ more-says events steps (Full place e n) = (refl, refl, refl)
 more-says events steps (Paused place e n) = (refl, refl, refl)
 more-says events steps (Refused number place e n) = (refl, refl, refl)
 
-following-joins : (whole first second : Run) (allowance : ℕ) → whole ≡ following first second → Joins whole first second allowance
+pub following-joins : (whole first second : Run) (allowance : ℕ) → whole ≡ following first second → Joins whole first second allowance
 following-joins whole first second allowance is =
     let says = more-says (events_said first.pumped.answer) (steps_said first.pumped.answer) second.pumped.answer in
     record {
@@ -233,7 +233,7 @@ following-joins whole first second allowance is =
     }
 
 -- a second part that is allowed no step
-idle-joins : (first second : Run) → end_of second ≡ anew (end_of first) → Joins first first second 0
+pub idle-joins : (first second : Run) → end_of second ≡ anew (end_of first) → Joins first first second 0
 idle-joins first second is =
     record {
       hub = sym (ap (λ (p : Progress). p.hub) is);
@@ -243,18 +243,6 @@ idle-joins first second is =
       out = sym (ap (λ (p : Progress). written first ++ p.out) is ∙ take-append-drop (event_size * events_said first.pumped.answer) first.out);
       answer = λ some. absurd (omega arith);
     }
-
-pub pump-parts : (h : Hub) (batch : List ℕ) (place : ℕ) (out : List ℕ) (a b : ℕ)
-    → let first = pump_of h batch place out a in
-    Joins (pump_of h batch place out (a + b)) first (onward first batch b) b
-pump-parts h batch place out a zero =
-    let first = pump_of h batch place out a in
-    let same : a + 0 ≡ a = omega arith in
-    rw same (idle-joins first (onward first batch 0) (idle first.pumped.hub batch _ (unwritten first)))
-pump-parts h batch place out a (suc b) =
-    let first = pump_of h batch place out a in
-    following-joins (pump_of h batch place out (a + suc b)) first (onward first batch (suc b)) (suc b)
-    (unfold pump_of in pump-by-parts (pump_refusal (length batch) (length out) place) h batch place out a b refl (pump-stays batch place out h a))
 
 -- ---- 01's padlog example in two parts: two events for its first record, four for its second
 

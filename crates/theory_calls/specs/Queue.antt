@@ -1,17 +1,18 @@
 -- "The queue holds 64. It never overflows": what a step and an accepted insert do to the waiting events, as a list, and to their weighted sum. "No step
--- that takes from the queue raises that sum, a step on an empty queue leaves at most 4, an accepted insert at most 64."
-use Rattle.std.specs.Prelude.{ℕ, ◌+◌, ◌-◌, ◌%◌, ◌<◌, ◌≤◌, Bool, true, false, List, [], ◌∷◌, ◌++◌, ◌≡◌, refl, ltb, length, get_or}
-use Rattle.std.proofs.Common.{◌∙◌, lt-ltb, ltb-true, ltb-false}
+-- that takes from the queue raises that sum, a step on an empty queue leaves at most 4, an accepted insert at most 64." What a step does to the sum, and that
+-- it loses nothing, stand in `proofs/Queue.antt`.
+use Rattle.std.specs.Prelude.{ℕ, ◌+◌, ◌-◌, ◌%◌, ◌<◌, ◌≤◌, List, [], ◌∷◌, ◌++◌, ◌≡◌, length, get_or}
+use Rattle.std.proofs.Common.{◌∙◌, lt-ltb}
 use native.Mathlib.Omega.{arith}
 use Rattle.rules.specs.declared.Hub.{Hub}
 use Rattle.rules.specs.declared.Event.{Event}
 use Rattle.rules.specs.declared.NextRecord.{NextRecord}
 use Rattle.rules.specs.Names.{queue_room, insert_limit}
-use Rattle.rules.specs.Hub.{past_slot, queue_after, front_of, view_of, place_in, name_in, element_at, pressed_at}
+use Rattle.rules.specs.Hub.{past_slot, queue_after, front_of, place_in, name_in, element_at, pressed_at}
 use Rattle.rules.specs.Step.{head_after, marked_of, pushes_of, pushed_of, updated_at, updated_of, filtered_in, filtered_hub, taken_of, record_gives, step_hub}
 use Rattle.rules.specs.Calls.{inserted_at}
-use Rattle.theory_calls.specs.Waiting.{waiting_list, waiting-length, ring-length, rest_of, popped, empty-rest, pushed, Away, push-elsewhere, queue-length}
-use Rattle.theory_calls.specs.Weight.{weight_of, weigh, weigh-bounds, weigh-append, brought, record-brings, pushes-light, hat_weight}
+use Rattle.theory_calls.specs.Waiting.{waiting_list, waiting-length, ring-length, rest_of, pushed, Away, push-elsewhere, queue-length}
+use Rattle.theory_calls.specs.Weight.{weight_of, weigh, weigh-bounds, weigh-append, brought, record-brings, hat_weight}
 
 -- what holds of every hub that the calls reach: the ring has 64 places, and what waits weighs at most 64
 pub record Sound (h : Hub) : Type 0 where
@@ -31,17 +32,13 @@ unfoldable pub pushes_in : Hub → NextRecord → List Event
 unfolding pushes_of filtered_in marked_of taken_of
 pushes_in h l = pushes_of (taken_of h l) (filtered_in (marked_of h l.raw) (taken_of h l).event).gives
 
-pushes-brought : (h : Hub) (l : NextRecord) → weigh (pushes_in h l) ≤ brought (taken_of h l)
-unfolding pushes_in filtered_in
-pushes-brought h l = pushes-light (taken_of h l) (marked_of h l.raw).filters (view_of (marked_of h l.raw) (taken_of h l).event)
-
 -- a step that takes the front brings the front
-front-brought : (h : Hub) (l : NextRecord) → 0 < h.waiting → brought (taken_of h l) ≡ weight_of (front_of h)
+pub front-brought : (h : Hub) (l : NextRecord) → 0 < h.waiting → brought (taken_of h l) ≡ weight_of (front_of h)
 unfolding taken_of brought
 front-brought h l some = rw (lt-ltb 0 h.waiting some) (omega arith)
 
 -- on an empty queue it brings what the record gives
-record-brought : (h : Hub) (l : NextRecord) → h.waiting ≡ 0 → brought (taken_of h l) ≤ hat_weight
+pub record-brought : (h : Hub) (l : NextRecord) → h.waiting ≡ 0 → brought (taken_of h l) ≤ hat_weight
 unfolding taken_of record_gives
 record-brought h l none =
     rw none
@@ -49,12 +46,12 @@ record-brought h l none =
     h.pressed h.released h.reversed)
 
 -- where there is room, the rest waits on, and what is queued stands behind it in its order
-step-list : (h : Hub) (l : NextRecord) → length h.queue ≡ queue_room → h.waiting - 1 + length (pushes_in h l) ≤ queue_room
+pub step-list : (h : Hub) (l : NextRecord) → length h.queue ≡ queue_room → h.waiting - 1 + length (pushes_in h l) ≤ queue_room
     → waiting_list (step_hub h l) ≡ rest_of h ++ pushes_in h l
 unfolding waiting_list rest_of step_hub updated_of updated_at filtered_hub pushed_of marked_of pushes_in
 step-list h l long room = pushed (pushes_in h l) h.queue (head_after h.head h.waiting) (h.waiting - 1) long room
 
-step-ring : (h : Hub) (l : NextRecord) → length (step_hub h l).queue ≡ length h.queue
+pub step-ring : (h : Hub) (l : NextRecord) → length (step_hub h l).queue ≡ length h.queue
 unfolding step_hub updated_of updated_at filtered_hub pushed_of marked_of pushes_in
 step-ring h l = queue-length (pushes_in h l) h.queue (head_after h.head h.waiting) (h.waiting - 1)
 
@@ -63,29 +60,11 @@ pub taking-moves-nothing : (h : Hub) (l : NextRecord) → pushes_in h l ≡ [] �
 unfolding step_hub updated_of updated_at filtered_hub pushed_of marked_of pushes_in queue_after
 taking-moves-nothing h l none = rw none
 
-rest-length : (h : Hub) → length (rest_of h) ≡ h.waiting - 1
+pub rest-length : (h : Hub) → length (rest_of h) ≡ h.waiting - 1
 unfolding rest_of
 rest-length h = ring-length h.queue (head_after h.head h.waiting % queue_room) (h.waiting - 1)
 
 module _ (h : Hub) (l : NextRecord) (z : Sound h) where
-  -- what a step takes and what it leaves are what waited
-  front-sum : 0 < h.waiting → weigh (waiting_list h) ≡ weight_of (front_of h) + weigh (rest_of h)
-  front-sum some = rw (popped h some) (unfold weigh in refl)
-
-  room_by : (waits : Bool) → ltb 0 h.waiting ≡ waits → h.waiting - 1 + length (pushes_in h l) ≤ queue_room
-  room_by true e =
-      let some = ltb-true 0 h.waiting e in
-      let most = z.light in
-      omega (arith, front-sum some, front-brought h l some, pushes-brought h l, (weigh-bounds (pushes_in h l)).0, rest-length h, (weigh-bounds (rest_of h)).0)
-  room_by false e =
-      let empty = ltb-false 0 h.waiting e in
-      let none : h.waiting ≡ 0 = omega arith in
-      omega (arith, record-brought h l none, pushes-brought h l, (weigh-bounds (pushes_in h l)).0)
-
-  -- nothing is lost: after a step there waits what waited behind what was taken, and behind it every event that the step queued
-  pub nothing-lost : waiting_list (step_hub h l) ≡ rest_of h ++ pushes_in h l
-  nothing-lost = step-list h l z.ring (room_by (ltb 0 h.waiting) refl)
-
   -- and none moves: a slot that is none of the next places behind those that wait, as many as the step queues, holds what it held
   pub others-stay : (k : ℕ) → Away (head_after h.head h.waiting) (h.waiting - 1) (length (pushes_in h l)) k
       → get_or (step_hub h l).queue k past_slot ≡ get_or h.queue k past_slot
@@ -97,29 +76,6 @@ module _ (h : Hub) (l : NextRecord) (z : Sound h) where
       few =
           let most = sound-waiting h z in
           omega arith
-
-  -- "No step that takes from the queue raises that sum"
-  pub never-rises : 0 < h.waiting → weigh (waiting_list (step_hub h l)) ≤ weigh (waiting_list h)
-  never-rises some =
-      rw nothing-lost
-      (omega (arith, weigh-append (rest_of h) (pushes_in h l), front-sum some, front-brought h l some, pushes-brought h l))
-
-  -- "a step on an empty queue leaves at most 4"
-  pub at-most-four : h.waiting ≡ 0 → weigh (waiting_list (step_hub h l)) ≤ 4
-  at-most-four none =
-      rw (nothing-lost, empty-rest h none) (omega (arith, record-brought h l none, pushes-brought h l))
-
-  pub step-sound : Sound (step_hub h l)
-  step-sound = record { ring = step-ring h l ∙ z.ring; light = by (ltb 0 h.waiting) refl }
-    where
-      by : (waits : Bool) → ltb 0 h.waiting ≡ waits → weigh (waiting_list (step_hub h l)) ≤ queue_room
-      by true e =
-          let most = z.light in
-          omega (arith, never-rises (ltb-true 0 h.waiting e))
-      by false e =
-          let empty = ltb-false 0 h.waiting e in
-          let none : h.waiting ≡ 0 = omega arith in
-          omega (arith, at-most-four none)
 
 -- ---- an accepted insert: fewer than 16 waited
 

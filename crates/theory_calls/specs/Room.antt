@@ -7,7 +7,6 @@ use Rattle.std.proofs.Math.ListN.{length}
 use native.Mathlib.Omega.{arith}
 use Rattle.rules.specs.declared.Hub.{Hub}
 use Rattle.rules.specs.declared.Event.{Event}
-use Rattle.rules.specs.declared.RecordRead.TheVariants as record_read
 use Rattle.rules.specs.Forms.{record_size, event_size, record_fits, read_record}
 use Rattle.rules.specs.Places.{one_if}
 use Rattle.rules.specs.Refusals.{record_refusal}

@@ -8,7 +8,8 @@ use Rattle.rules.specs.Step.{next_record_of, step_hub}
 use Rattle.rules.specs.Pump.{Progress, place_after, stepped_by, stepped, pump_of}
 use Rattle.theory_calls.specs.Waiting.{rest_of, waiting-length, ring-length}
 use Rattle.theory_calls.specs.Queue.{pushes_in}
-use Rattle.theory_calls.specs.Reach.{Reached, step, reached-keeps}
+use Rattle.theory_calls.specs.Reach.{Reached, step}
+use Rattle.theory_calls.proofs.Reach.{reached-keeps}
 use Rattle.theory_calls.specs.Machines.{said, place_said, steps_said}
 use Rattle.theory_calls.specs.Runs.{Goes, pump-holds}
 

@@ -9,7 +9,8 @@ use Rattle.rules.specs.declared.PumpAnswer.{PumpAnswer}
 use Rattle.rules.specs.Forms.{record_size}
 use Rattle.rules.specs.Pump.{Run, pump_of}
 use Rattle.theory_calls.specs.Machines.{said, place_said, events_said}
-use Rattle.theory_calls.specs.Parts.{unwritten, pump-parts}
+use Rattle.theory_calls.specs.Parts.{unwritten}
+use Rattle.theory_calls.proofs.Parts.{pump-parts}
 use Rattle.theory_history.specs.Lemmas.Handed.{Still, none-still}
 use Rattle.theory_history.specs.Pumps.{most_handed, pump-took, pump-counts}
 use Rattle.theory_demand3.specs.Demand3.{Call, pump, Script, ◌then◌, goes_on, Allowed, play, records_of, events_of}

@@ -21,7 +21,8 @@ use Rattle.rules.specs.Hub.{place_in, kind_at, element_at, pressed_at, value_at,
 use Rattle.rules.specs.Queries.{pressed_by_code}
 use Rattle.theory_registered.specs.Directions.{direction-found}
 use Rattle.theory_registered.specs.Unlisted.{not_found}
-use Rattle.theory_registered.specs.Pads.{Desk, Kept, reached-desk}
+use Rattle.theory_registered.specs.Pads.{Desk, Kept}
+use Rattle.theory_registered.proofs.Pads.{reached-desk}
 use Rattle.theory_history.specs.Rule.{Reading, Reads, nothing, held, is_direction, button_reads, trigger_reads, hat_value}
 use Rattle.theory_history.specs.Lemmas.Steps.{Ready}
 use Rattle.theory_history.specs.Played.{Played, reached, ready}

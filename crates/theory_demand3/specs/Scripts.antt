@@ -20,7 +20,8 @@ use Rattle.rules.specs.Calls.{fresh_hub, idle_hub, new_by, new_of, registered_at
 use Rattle.theory_calls.specs.Reach.{pump-keeps}
 use Rattle.theory_calls.specs.Machines.{said}
 use Rattle.theory_registered.specs.Columns.{either-taken}
-use Rattle.theory_registered.specs.Pads.{Desk, Kept, Alike, alike-kept, next-kept, old-kept, step-alike, update_alike, counted-alike, reached-desk}
+use Rattle.theory_registered.specs.Pads.{Desk, Kept, Alike, alike-kept, next-kept, old-kept, step-alike, update_alike, counted-alike}
+use Rattle.theory_registered.proofs.Pads.{reached-desk}
 use Rattle.theory_history.specs.Rule.{records_from}
 use Rattle.theory_history.specs.Played as played
 use Rattle.theory_history.specs.Played.{Played, reached}

@@ -17,7 +17,8 @@ use Rattle.rules.specs.State.{read_pressed, read_value}
 use Rattle.rules.specs.Hub.{place_in, kind_at, element_at, pressed_at, has_axis_at, value_at}
 use Rattle.rules.specs.Queries.{pad_refusal, truth_by, value_by, pressed_by_code, value_by_code}
 use Rattle.theory_calls.specs.Waiting.{waiting_list}
-use Rattle.theory_registered.specs.Pads.{Desk, reached-desk, direction-kept}
+use Rattle.theory_registered.specs.Pads.{Desk}
+use Rattle.theory_registered.proofs.Pads.{reached-desk, direction-kept}
 use Rattle.theory_arithmetic.specs.Proper.{Proper, proper-eq}
 use Rattle.theory_history.specs.Rule.{Reading, Reads, is_direction, button_reads, trigger_reads, nothing}
 use Rattle.theory_history.specs.Lemmas.Cells.{cell_at, cell_pressed, cell_value}

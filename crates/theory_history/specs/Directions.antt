@@ -18,7 +18,7 @@ use Rattle.rules.specs.Names.{nowhere, no_name, is_axis, is_hat, dpad_x, positiv
 use Rattle.rules.specs.Hub.{place_in, kind_at, element_at}
 use Rattle.rules.specs.Queries.{pressed_by_code}
 use Rattle.theory_calls.specs.Waiting.{waiting_list}
-use Rattle.theory_registered.specs.Pads.{reached-desk, direction-kept}
+use Rattle.theory_registered.proofs.Pads.{reached-desk, direction-kept}
 use Rattle.theory_history.specs.Rule.{Reads, held, hat_value, direction_code, pressing_value}
 use Rattle.theory_history.specs.Lemmas.Cells.{cell_at, cell_pressed}
 use Rattle.theory_history.specs.Lemmas.Waits.{sheet_of, axial_at, takes}

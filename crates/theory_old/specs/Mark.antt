@@ -28,7 +28,8 @@ use Rattle.rules.specs.Calls.{fresh_hub, idle_hub, new_by, new_of, registered_at
 use Rattle.rules.specs.Queries.{pad_refusal, truth_by, old_of}
 use Rattle.theory_calls.specs.Reach.{Reached, new, register, rename, step, update, insert, inc, reset, pump-reached}
 use Rattle.theory_registered.specs.Columns.{accepted, either-taken}
-use Rattle.theory_registered.specs.Pads.{Desk, reached-desk}
+use Rattle.theory_registered.specs.Pads.{Desk}
+use Rattle.theory_registered.proofs.Pads.{reached-desk}
 use Rattle.theory_held.specs.Applied.{joins, connects}
 use Rattle.theory_old.specs.Refused.{taken-partial}
 use Rattle.theory_old.specs.Account.{archived_partial, done, archived_in, came_old, old_in, plain-not-old}

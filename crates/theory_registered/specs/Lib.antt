@@ -8,4 +8,3 @@ pub mod Listing
 pub mod Converts
 pub mod Pads
 pub mod Axes
-pub mod Triggers

@@ -1,15 +1,14 @@
 -- Each of a registered pad's places is a listed element's, or has no kind, no name and nothing kept of limits. So a code that the sheet does not list is found
 -- only as a direction's, with none of these.
-use Rattle.std.specs.Prelude.{ℕ, zero, suc, ◌+◌, ◌-◌, ◌*◌, ◌/◌, ◌<◌, Bool, true, false, ◌&&◌, List, ◌⊎◌, ◌≡◌, refl, ltb, get_or}
+use Rattle.std.specs.Prelude.{ℕ, zero, suc, ◌+◌, ◌-◌, ◌*◌, ◌<◌, Bool, true, false, ◌&&◌, List, ◌⊎◌, ◌≡◌, refl, ltb, get_or}
 use Rattle.std.proofs.Common.{inl, inr, sym, ◌∙◌, arith, ltb-true}
 use Rattle.std.proofs.Math.Path.{ap}
 use Rattle.rules.specs.declared.Hub.{Hub}
-use Rattle.rules.specs.declared.Element.{Element}
 use Rattle.rules.specs.declared.Row.{Row}
 use Rattle.rules.specs.Names.{places_per_pad, nowhere, no_name}
 use Rattle.rules.specs.Sheets.{count_of, element_of}
 use Rattle.rules.specs.Places.{no_element, unlisted_row, listed_row, next_row, element_next, direction_next, rows_from, rows_of, one_if}
-use Rattle.rules.specs.Hub.{place_in, kind_at, element_at, past_element}
+use Rattle.rules.specs.Hub.{place_in, kind_at, element_at}
 use Rattle.rules.specs.Calls.{row_code, row_kind, row_name, row_element}
 use Rattle.pad.specs.Lookup.{place-stands}
 use Rattle.theory_registered.specs.Rows.{code_at}

@@ -1,6 +1,6 @@
--- Every hub that the public calls reach: at most four pads stand, each keeps the sheet that it was registered with, its codes do not fall, and the lookup of
--- a code answers what a plain scan of its places would. By induction on the calls; only registration touches the sheets' columns.
-use Rattle.std.specs.Prelude.{ℕ, zero, suc, ◌+◌, ◌*◌, ◌<◌, ◌≤◌, Bool, true, List, map, ◌≡◌, ltb, Float, get_or}
+-- What is kept of the pads: at most four stand, each with the sheet that it was registered with. Calls that leave the sheets' columns alone leave it so, and so does
+-- a registration that is accepted. (Of every hub that the public calls reach: `proofs/Pads.antt`.)
+use Rattle.std.specs.Prelude.{ℕ, zero, suc, ◌+◌, ◌<◌, ◌≤◌, Bool, true, List, map, ◌≡◌, ltb, get_or}
 use Rattle.std.proofs.Math.Bool.{false}
 use Rattle.std.proofs.Math.Path.{refl, sym}
 use Rattle.std.proofs.Common.{◌∙◌, subst, ltb-true, ltb-false}
@@ -11,19 +11,13 @@ use Rattle.rules.specs.declared.EventForm.{EventForm}
 use Rattle.rules.specs.declared.EventRead.{EventRead}
 use Rattle.rules.specs.declared.EventRead.TheVariants as event_read
 use Rattle.rules.specs.declared.NextRecord.{NextRecord}
-use Rattle.rules.specs.Names.{pad_limit, places_per_pad, nowhere, code_up}
-use Rattle.rules.specs.Forms.{read_event}
-use Rattle.rules.specs.Sheets.{sheet_refusal, hats_of, count_of, element_of}
-use Rattle.rules.specs.Places.{directions, place_of, scan_of, rows_of, converts_of}
-use Rattle.rules.specs.Refusals.{thresholds_refusal, form_refusal, insert_refusal}
+use Rattle.rules.specs.Names.{pad_limit}
+use Rattle.rules.specs.Sheets.{sheet_refusal, hats_of, count_of}
+use Rattle.rules.specs.Places.{rows_of, converts_of}
+use Rattle.rules.specs.Refusals.{form_refusal}
 use Rattle.rules.specs.Step.{marked_of, pushed_of, filtered_hub, updated_at, updated_of, step_hub}
-use Rattle.rules.specs.Calls.{row_code, row_name, fresh_hub, idle_hub, new_by, new_of, registered_at, register_refusal, register_by, register_as, renamed_at, rename_refusal, rename_by, rename_of, form_place, update_form_by, update_by, update_of, inserted_at, insert_form_by, insert_by, insert_of, counted_at, inc_of, reset_of}
-use Rattle.pad.specs.Rising.{NeverFalls, place-is-scan}
-use Rattle.theory_calls.specs.Reach.{Reached, new, register, rename, step, update, insert, inc, reset}
-use Rattle.theory_registered.specs.Columns.{Keeps, Sized, laid-places, accepted, either-taken, register-sized, register-keeps, register-others, keeps-rise}
-use Rattle.theory_registered.specs.Found.{Listed, listed}
-use Rattle.theory_registered.specs.Directions.{direction-found}
-use Rattle.theory_registered.specs.Unlisted.{Foreign, not_found}
+use Rattle.rules.specs.Calls.{row_code, row_name, registered_at, register_refusal, register_by, form_place, update_form_by, update_by, counted_at}
+use Rattle.theory_registered.specs.Columns.{Keeps, Sized, laid-places, accepted, register-sized, register-keeps, register-others}
 use Rattle.theory_registered.specs.Converts.{SamePlaces, converts-same}
 
 -- a pad that was registered with this sheet
@@ -70,7 +64,7 @@ pub alike-kept : (h g : Hub) (p : ℕ) (s : List ℕ) → Alike h g → Kept h p
 alike-kept h g p s a k =
     record { taken = k.taken; keeps = alike-keeps h g p s a k.keeps; converts = rw (a.converts, a.codes, a.names) k.converts }
 
-alike : (h g : Hub) → Alike h g → Desk h → Desk g
+pub alike : (h g : Hub) → Alike h g → Desk h → Desk g
 alike h g a d =
     record {
       sized =
@@ -90,7 +84,7 @@ alike h g a d =
           record { sheet = w.sheet; kept = alike-kept h g p w.sheet a w.kept };
     }
 
-abbrev alike-by : (h g : Hub) → g.pads ≡ h.pads → g.codes ≡ h.codes → g.kinds ≡ h.kinds → g.names ≡ h.names → g.elements ≡ h.elements
+abbrev pub alike-by : (h g : Hub) → g.pads ≡ h.pads → g.codes ≡ h.codes → g.kinds ≡ h.kinds → g.names ≡ h.names → g.elements ≡ h.elements
     → g.counts ≡ h.counts → g.hats ≡ h.hats → g.converts ≡ h.converts → Alike h g
 alike-by h g a b c d e f i j = record { pads = a; codes = b; kinds = c; names = d; elements = e; counts = f; hats = i; converts = j }
 
@@ -111,21 +105,7 @@ pub counted-alike : (h : Hub) (n : ℕ) → Alike h (counted_at h n)
 unfolding counted_at
 counted-alike h n = alike-by h _ refl refl refl refl refl refl refl refl
 
--- ---- each call
-
-fresh-desk : (pressed released : Float) (reversed filters updates : Bool) → Desk (fresh_hub pressed released reversed filters updates)
-unfolding fresh_hub
-fresh-desk pressed released reversed filters updates =
-    record {
-      sized = record { codes = refl; kinds = refl; names = refl; elements = refl; counts = refl; hats = refl; converts = refl };
-      few = omega arith;
-      sheets = λ p short. absurd (omega arith);
-    }
-
-new-desk : (number : ℕ) (h : Hub) → Desk h → Desk (new_by number h).hub
-unfolding idle_hub
-new-desk zero h d = d
-new-desk (suc number) h d = fresh-desk _ _ _ _ _
+-- ---- a registration that is accepted
 
 module _ (h : Hub) (s : List ℕ) (d : Desk h) (taken : register_refusal true h.pads s ≡ 0) where
   -- the next pad has the sheet that it is given
@@ -168,7 +148,7 @@ module _ (h : Hub) (s : List ℕ) (d : Desk h) (taken : register_refusal true h.
       let own : h.pads ≡ p = omega arith in
       subst (λ (q : ℕ). Sheet (register_by 0 h s).hub q) own (record { sheet = s; kept = next-kept })
 
-  taken-desk : Desk (register_by 0 h s).hub
+  pub taken-desk : Desk (register_by 0 h s).hub
   taken-desk =
       let few = (accepted h.pads s taken).0 in
       record {
@@ -176,67 +156,3 @@ module _ (h : Hub) (s : List ℕ) (d : Desk h) (taken : register_refusal true h.
         few = unfold registered_at in omega arith;
         sheets = λ p short. sheet-by p (ltb p h.pads) refl (unfold registered_at in short);
       }
-
-register-desk : (archived : Bool) (h : Hub) (s : List ℕ) → Desk h → (number : ℕ) → register_refusal archived h.pads s ≡ number → Desk (register_by number h s).hub
-register-desk archived h s d zero e = taken-desk h s d (either-taken archived h.pads s e)
-register-desk archived h s d (suc number) e = d
-
-rename-desk : (number : ℕ) (h : Hub) (pad : ℕ) (list : List ℕ) → Desk h → Desk (rename_by number h pad list).hub
-unfolding renamed_at
-rename-desk zero h pad list d = alike h _ (alike-by h _ refl refl refl refl refl refl refl refl) d
-rename-desk (suc number) h pad list d = d
-
-insert-form-desk : (number : ℕ) (h : Hub) (f : EventForm) → Desk h → Desk (insert_form_by number h f).hub
-unfolding inserted_at
-insert-form-desk zero h f d = alike h _ (alike-by h _ refl refl refl refl refl refl refl refl) d
-insert-form-desk (suc number) h f d = d
-
-insert-desk : (r : EventRead) (h : Hub) → Desk h → Desk (insert_by r h).hub
-insert-desk (event_read.Form f) h d = insert-form-desk (insert_refusal f h.pads (form_place h f) h.waiting) h f d
-insert-desk event_read.Malformed h d = d
-
--- ---- every hub that is reached
-
-pub reached-desk : {h : Hub} → Reached h → Desk h
-unfolding new_of register_as rename_of update_of insert_of inc_of reset_of counted_at
-reached-desk (new pressed released reversed filters updates) =
-    new-desk (thresholds_refusal pressed released) _ (fresh-desk pressed released reversed filters updates)
-reached-desk (register {h} archived sheet w) = register-desk archived h sheet (reached-desk w) (register_refusal archived h.pads sheet) refl
-reached-desk (rename {h} pad list w) = rename-desk (rename_refusal h pad list) h pad list (reached-desk w)
-reached-desk (step {h} l w) = alike h _ (step-alike h l) (reached-desk w)
-reached-desk (update {h} event w) = alike h _ (update_alike (read_event event) h) (reached-desk w)
-reached-desk (insert {h} event w) = insert-desk (read_event event) h (reached-desk w)
-reached-desk (inc {h} w) = alike h _ (counted-alike h _) (reached-desk w)
-reached-desk (reset {h} w) = alike h _ (counted-alike h 0) (reached-desk w)
-
-module _ {h : Hub} (w : Reached h) (p : ℕ) (short : p < h.pads) where
-  pub four-pads : h.pads ≤ pad_limit
-  four-pads = (reached-desk w).few
-
-  stands : p < pad_limit
-  stands =
-      let few = four-pads in
-      omega arith
-
-  pub sheet-of : Sheet h p
-  sheet-of = (reached-desk w).sheets p short
-
-  -- a registered pad's codes do not fall
-  pub never-falls : NeverFalls h.codes p
-  never-falls = keeps-rise h p sheet-of.sheet sheet-of.kept.taken sheet-of.kept.keeps
-
-  -- so the halving search is the plain scan
-  pub lookup-is-scan : (c : ℕ) → place_of h.codes p c ≡ scan_of h.codes places_per_pad (places_per_pad * p) c
-  lookup-is-scan c = place-is-scan h.codes p c stands never-falls
-
-  -- and each element that the sheet lists is found, with its kind, its name and what is kept of its limits
-  pub element-kept : (e : ℕ) → e < count_of sheet-of.sheet → Listed h p (element_of sheet-of.sheet e)
-  element-kept e inside = listed h p sheet-of.sheet stands sheet-of.kept.taken sheet-of.kept.keeps e inside
-
-  -- so is each direction, listed or not
-  pub direction-kept : (d : ℕ) → d < directions → place_of h.codes p (code_up + d) < nowhere
-  direction-kept d few = direction-found h p sheet-of.sheet stands sheet-of.kept.taken sheet-of.kept.keeps d few
-
-  -- while a code that is neither listed nor a direction's is not
-  pub foreign-absent : (c : ℕ) → Foreign sheet-of.sheet c → place_of h.codes p c ≡ nowhere
-  foreign-absent c foreign = not_found sheet-of.sheet c foreign h p stands sheet-of.kept.taken sheet-of.kept.keeps

@@ -18,10 +18,12 @@ use Rattle.rules.specs.Hub.{element_at}
 use Rattle.rules.specs.Step.{record_kind, updated_of, step_hub}
 use Rattle.rules.specs.Calls.{counted_at}
 use Rattle.theory_calls.specs.Waiting.{waiting_list}
-use Rattle.theory_calls.specs.Reach.{Reached, reached-sound}
+use Rattle.theory_calls.specs.Reach.{Reached}
+use Rattle.theory_calls.proofs.Reach.{reached-sound}
 use Rattle.theory_arithmetic.specs.Proper.{Proper, proper-eq, zero-proper, one-proper}
-use Rattle.theory_registered.specs.Pads.{Desk, reached-desk}
-use Rattle.theory_registered.specs.Triggers.{trigger-zoned}
+use Rattle.theory_registered.specs.Pads.{Desk}
+use Rattle.theory_registered.proofs.Pads.{reached-desk}
+use Rattle.theory_registered.proofs.Triggers.{trigger-zoned}
 use Rattle.theory_history.specs.Rule.{Reading, nothing, rejoins, concerns, button_reads, trigger_after, trigger_reads}
 use Rattle.theory_history.specs.Lemmas.Cells.{cell_at}
 use Rattle.theory_history.specs.Lemmas.Turns.{ev}

@@ -17,8 +17,9 @@ use Rattle.rules.specs.Hub.{element_at}
 use Rattle.rules.specs.Step.{record_kind, updated_of, step_hub}
 use Rattle.rules.specs.Calls.{registered_at, counted_at}
 use Rattle.theory_calls.specs.Waiting.{waiting_list}
-use Rattle.theory_calls.specs.Reach.{reached-sound}
-use Rattle.theory_registered.specs.Pads.{Desk, reached-desk}
+use Rattle.theory_calls.proofs.Reach.{reached-sound}
+use Rattle.theory_registered.specs.Pads.{Desk}
+use Rattle.theory_registered.proofs.Pads.{reached-desk}
 use Rattle.theory_history.specs.Rule.{rejoins, speaks, dispatched_value, hat_value, direction_code, pressing_value}
 use Rattle.theory_history.specs.Lemmas.Cells.{cell_at}
 use Rattle.theory_history.specs.Lemmas.Turns.{ev}

@@ -19,9 +19,11 @@ use Rattle.rules.specs.Dispatch.{move_of, dispatch_by, single}
 use Rattle.rules.specs.Hub.{element_at, pressed_at, front_of, view_at, view_of, flag_place}
 use Rattle.rules.specs.Step.{blank_record, marks_cleared, marked_of, flags_set, pushed_of, filtered_hub, updated_at, updated_of, filtered_in, taken_of, step_hub}
 use Rattle.theory_calls.specs.Waiting.{waiting_list, rest_of, popped, empty-rest}
-use Rattle.theory_calls.specs.Queue.{pushes_in, nothing-lost}
-use Rattle.theory_calls.specs.Reach.{reached-sound}
-use Rattle.theory_registered.specs.Pads.{Desk, reached-desk}
+use Rattle.theory_calls.specs.Queue.{pushes_in}
+use Rattle.theory_calls.proofs.Queue.{nothing-lost}
+use Rattle.theory_calls.proofs.Reach.{reached-sound}
+use Rattle.theory_registered.specs.Pads.{Desk}
+use Rattle.theory_registered.proofs.Pads.{reached-desk}
 use Rattle.theory_history.specs.Lemmas.Turns.{more_of, ev}
 use Rattle.theory_history.specs.Lemmas.Steps.{Ready, look, look_at, front-taken, pushes-of}
 use Rattle.theory_history.specs.Lemmas.Waits.{sheet_of, All, empty, head_of, Fit, Sheet, fit-pad}

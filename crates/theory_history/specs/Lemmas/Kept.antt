@@ -15,7 +15,7 @@ use Rattle.rules.specs.Hub.{pressed_at}
 use Rattle.rules.specs.Step.{updated_of, step_hub}
 use Rattle.rules.specs.Calls.{fresh_hub, new_by, new_of, register_refusal, registered_at, register_by, register_as, update_form_by, counted_at, inc_of, reset_of}
 use Rattle.theory_registered.specs.Columns.{either-taken}
-use Rattle.theory_registered.specs.Pads.{reached-desk}
+use Rattle.theory_registered.proofs.Pads.{reached-desk}
 use Rattle.theory_history.specs.Lemmas.Turns.{ev}
 use Rattle.theory_history.specs.Lemmas.Steps.{look, look_at}
 use Rattle.theory_history.specs.Lemmas.Accepted.{Good, good}

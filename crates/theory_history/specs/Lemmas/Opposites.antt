@@ -10,8 +10,8 @@ use Rattle.rules.specs.Places.{place_of}
 use Rattle.rules.specs.Step.{updated_of, step_hub}
 use Rattle.rules.specs.Calls.{counted_at}
 use Rattle.theory_calls.specs.Waiting.{waiting_list}
-use Rattle.theory_calls.specs.Reach.{reached-sound}
-use Rattle.theory_registered.specs.Pads.{reached-desk}
+use Rattle.theory_calls.proofs.Reach.{reached-sound}
+use Rattle.theory_registered.proofs.Pads.{reached-desk}
 use Rattle.theory_history.specs.Rule.{direction_code}
 use Rattle.theory_history.specs.Lemmas.Cells.{cell_at}
 use Rattle.theory_history.specs.Lemmas.Turns.{ev}

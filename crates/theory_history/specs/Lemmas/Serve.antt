@@ -15,7 +15,8 @@ use Rattle.rules.specs.Dispatch.{single}
 use Rattle.rules.specs.Hub.{has_axis_at, front_of, view_of}
 use Rattle.rules.specs.Step.{blank_record, marked_of, pushed_of, filtered_hub, updated_of, updated_at, step_hub}
 use Rattle.theory_calls.specs.Waiting.{waiting_list, rest_of, popped}
-use Rattle.theory_calls.specs.Queue.{Sound, nothing-lost}
+use Rattle.theory_calls.specs.Queue.{Sound}
+use Rattle.theory_calls.proofs.Queue.{nothing-lost}
 use Rattle.theory_registered.specs.Pads.{Desk}
 use Rattle.theory_history.specs.Lemmas.Cells.{Cell, cell_at, cell_pressed, cell_value, cell_type, hits}
 use Rattle.theory_history.specs.Lemmas.Turns.{out_of, more_of}

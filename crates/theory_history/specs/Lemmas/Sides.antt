@@ -16,7 +16,8 @@ use Rattle.rules.specs.Dispatch.{amount, single}
 use Rattle.rules.specs.Hub.{has_axis_at, front_of, view_of}
 use Rattle.rules.specs.Step.{blank_record, marked_of, taken_of, step_hub}
 use Rattle.theory_calls.specs.Waiting.{waiting_list, rest_of, popped, empty-rest}
-use Rattle.theory_calls.specs.Queue.{Sound, pushes_in, nothing-lost}
+use Rattle.theory_calls.specs.Queue.{Sound, pushes_in}
+use Rattle.theory_calls.proofs.Queue.{nothing-lost}
 use Rattle.theory_registered.specs.Pads.{Desk}
 use Rattle.theory_history.specs.Lemmas.Cells.{Cell, cell_at, cell_pressed, cell_value, hits}
 use Rattle.theory_history.specs.Lemmas.Turns.{out_of, more_of}

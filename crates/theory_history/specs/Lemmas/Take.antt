@@ -21,7 +21,8 @@ use Rattle.rules.specs.Dispatch.{Move, move_of, dispatch_by, dispatch_of, single
 use Rattle.rules.specs.Hub.{place_in, element_at, pressed_at, has_axis_at, view_of}
 use Rattle.rules.specs.Step.{record_gives, taken_of, marked_of, step_hub}
 use Rattle.theory_calls.specs.Waiting.{waiting_list, empty-rest}
-use Rattle.theory_calls.specs.Queue.{Sound, pushes_in, nothing-lost}
+use Rattle.theory_calls.specs.Queue.{Sound, pushes_in}
+use Rattle.theory_calls.proofs.Queue.{nothing-lost}
 use Rattle.theory_history.specs.Lemmas.Cells.{Cell, cell_at, cell_pressed, cell_value, hits}
 use Rattle.theory_history.specs.Lemmas.Turns.{ev, out_of, more_of, plain_type, plain_out, plain_more, hat-out, hat-more}
 use Rattle.theory_history.specs.Lemmas.Steps.{Ready, look_at, record-taken, pushes-of, cell-of, hasaxis-of}

@@ -15,11 +15,13 @@ use Rattle.rules.specs.Hub.{element_at, pressed_at, front_of, view_of}
 use Rattle.rules.specs.Step.{blank_record, marked_of, updated_of, updated_at, record_kind, taken_of, step_hub}
 use Rattle.rules.specs.Calls.{fresh_hub, new_by, new_of, register_refusal, register_by, register_as, update_form_by, counted_at, inc_of, reset_of}
 use Rattle.theory_calls.specs.Waiting.{waiting_list, ring_list, rest_of, popped, empty-rest}
-use Rattle.theory_calls.specs.Queue.{pushes_in, nothing-lost}
-use Rattle.theory_calls.specs.Reach.{reached-sound}
+use Rattle.theory_calls.specs.Queue.{pushes_in}
+use Rattle.theory_calls.proofs.Queue.{nothing-lost}
+use Rattle.theory_calls.proofs.Reach.{reached-sound}
 use Rattle.pad.specs.Lookup.{place-small}
 use Rattle.theory_registered.specs.Columns.{either-taken}
-use Rattle.theory_registered.specs.Pads.{Desk, reached-desk}
+use Rattle.theory_registered.specs.Pads.{Desk}
+use Rattle.theory_registered.proofs.Pads.{reached-desk}
 use Rattle.theory_history.specs.Lemmas.Turns.{more_of}
 use Rattle.theory_history.specs.Lemmas.Steps.{Ready, look, look_at, front-taken, record-taken, pushes-of}
 use Rattle.theory_history.specs.Lemmas.Waits.{Sheet, sheet_of, All, empty, more, all_append, head_of, tail_of, Fit}

@@ -20,7 +20,8 @@ use Rattle.rules.specs.Calls.{fresh_hub, new_by, new_of, registered_at, register
 use Rattle.pad.specs.Lookup.{place-stands}
 use Rattle.theory_registered.specs.Converts.{place_same}
 use Rattle.theory_registered.specs.Columns.{either-taken}
-use Rattle.theory_registered.specs.Pads.{Desk, reached-desk}
+use Rattle.theory_registered.specs.Pads.{Desk}
+use Rattle.theory_registered.proofs.Pads.{reached-desk}
 use Rattle.theory_history.specs.Lemmas.Cells.{Long}
 use Rattle.theory_history.specs.Lemmas.Marks.{all_same, still-there}
 use Rattle.theory_history.specs.Lemmas.Truth.{false-true}

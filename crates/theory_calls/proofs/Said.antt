@@ -22,7 +22,7 @@ use Rattle.rules.specs.Queries.{button_by_code, button_by_name, axis_by_code, ax
 use Rattle.rules.specs.Answers.{served, refused, bit, answer_says, register_says, pump_says, repeat_says, truth_says, value_says, button_says, axis_says, number_says, down_says}
 use Rattle.theory_calls.specs.Machines as machines
 use Rattle.theory_calls.specs.Judged.{judged, present, button_values, axis_values, event_refusal, update_refusal, queue_refusal, pump_ending, pump_judged}
-use Rattle.theory_calls.specs.Judged.{done-said, register-said, pump-said, update-said, insert-said, repeat-said, truth-said, value-said, button-said, axis-said, number-said, name-said, down-said}
+use Rattle.theory_calls.proofs.Judged.{done-said, register-said, pump-said, update-said, insert-said, repeat-said, truth-said, value-said, button-said, axis-said, number-said, name-said, down-said}
 
 -- ---- new: 1. register: 2, 3, 4, 29, 5. register_archived: 2, 3, 4, 5. rename: 6, 7, 3, 4, 5
 

@@ -1,0 +1,3 @@
+pub mod Pads
+pub mod Axes
+pub mod Triggers
