@@ -21,7 +21,8 @@ use Rattle.theory_calls.specs.Room.{pump-stays}
 use Rattle.theory_history.specs.Rule.{records_from}
 use Rattle.theory_history.specs.Played.{Played, fresh, register}
 use Rattle.theory_history.specs.Lemmas.Handed.{Still, none-still, register-still}
-use Rattle.theory_history.specs.Pumps.{most_handed, pump-counts}
+use Rattle.theory_history.specs.Pumps.{most_handed}
+use Rattle.theory_history.proofs.Pumps.{pump-counts}
 use Rattle.lines.specs.Text.{lines_of, drained_line, stopped_line, sheet_line}
 use Rattle.padlog.specs.declared.Tally.{Tally}
 use Rattle.padlog.specs.Log.{sheet_end, goes_on, drained, tally_of, last_line, allowance, pump_all, tallied, printed, rounds_of, rounds, desk_hub, log_by, log_of}

@@ -14,7 +14,8 @@ use Rattle.theory_calls.specs.Machines.{said, place_said, steps_said}
 use Rattle.theory_history.specs.Rule.{records_from}
 use Rattle.theory_history.specs.Played.{reached}
 use Rattle.theory_history.specs.Lemmas.Handed.{Still, none-still, register-still, inc-still, reset-still, update-still}
-use Rattle.theory_history.specs.Pumps.{most_handed, pump-counts}
+use Rattle.theory_history.specs.Pumps.{most_handed}
+use Rattle.theory_history.proofs.Pumps.{pump-counts}
 use Rattle.theory_demand3.specs.Demand3.{Call, register, pump, inc, reset, repeat, Script, ◌then◌, goes_on, Allowed, fed_back, play, records_of, events_of}
 use Rattle.theory_demand3.specs.Scripts.{script-played}
 use Rattle.theory_demand3.specs.Before.{pump-before}

@@ -12,7 +12,8 @@ use Rattle.theory_calls.specs.Machines.{said, place_said, events_said}
 use Rattle.theory_calls.specs.Parts.{unwritten}
 use Rattle.theory_calls.proofs.Parts.{pump-parts}
 use Rattle.theory_history.specs.Lemmas.Handed.{Still, none-still}
-use Rattle.theory_history.specs.Pumps.{most_handed, pump-took, pump-counts}
+use Rattle.theory_history.specs.Pumps.{most_handed}
+use Rattle.theory_history.proofs.Pumps.{pump-took, pump-counts}
 use Rattle.theory_demand3.specs.Demand3.{Call, pump, Script, ◌then◌, goes_on, Allowed, play, records_of, events_of}
 use Rattle.theory_demand3.specs.Scripts.{script-played}
 use Rattle.theory_demand3.specs.Counts.{records-length, allowed-before, Counts, counts-on, calls_count}

@@ -26,9 +26,9 @@ use Rattle.theory_registered.proofs.Pads.{reached-desk}
 use Rattle.theory_history.specs.Rule.{Reading, Reads, nothing, held, is_direction, button_reads, trigger_reads, hat_value}
 use Rattle.theory_history.specs.Lemmas.Steps.{Ready}
 use Rattle.theory_history.specs.Played.{Played, reached, ready}
-use Rattle.theory_history.specs.Demand as demand
-use Rattle.theory_history.specs.Demand.{asked-pressed, asked-value, standing-truth, standing-value}
-use Rattle.theory_history.specs.Directions.{positive, negative, opposites-read}
+use Rattle.theory_history.proofs.Demand as demand
+use Rattle.theory_history.proofs.Demand.{asked-pressed, asked-value, standing-truth, standing-value}
+use Rattle.theory_history.proofs.Directions.{positive, negative, opposites-read}
 use Rattle.theory_history.specs.Lemmas.Truth.{false-true, true-false}
 use Rattle.theory_demand3.specs.Demand3.{Settings, Sheet, sheet_read, elements_from, Lookup, listed, unlisted, lookup, lookup_name, lookup_element, converts, says, silent, last_hat, direction_reads, element_reads, reads_by, rule_reads, Opposite, right-left, up-down}
 use Rattle.theory_demand3.specs.Scripts.{Set}

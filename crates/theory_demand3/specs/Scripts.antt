@@ -25,9 +25,10 @@ use Rattle.theory_registered.proofs.Pads.{reached-desk}
 use Rattle.theory_history.specs.Rule.{records_from}
 use Rattle.theory_history.specs.Played as played
 use Rattle.theory_history.specs.Played.{Played, reached}
-use Rattle.theory_history.specs.Pumps.{Took, pump-took}
+use Rattle.theory_history.specs.Pumps.{Took}
+use Rattle.theory_history.proofs.Pumps.{pump-took}
 use Rattle.theory_history.specs.Lemmas.Small.{Small, new-small, register-small, pump-small, update-small, counted-small}
-use Rattle.theory_history.specs.Repeated.{repeats}
+use Rattle.theory_history.proofs.Repeated.{repeats}
 use Rattle.theory_history.specs.Lemmas.Sorts.{Same, step_same, counted_same}
 use Rattle.theory_history.specs.Lemmas.Kept.{form-same}
 use Rattle.theory_demand3.specs.Demand3.{Settings, register, pump, inc, reset, repeat, Script, new, ◌then◌, Allowed, fed_back, play, settings_of, taken_by, records_of, Sheet, sheet_read, accepted_by, sheets_of, no_sheet}

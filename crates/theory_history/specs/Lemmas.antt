@@ -15,7 +15,6 @@ pub mod Take
 pub mod Other
 pub mod Own
 pub mod Records
-pub mod Concerned
 pub mod Flags
 pub mod Tails
 pub mod Brings
@@ -26,7 +25,6 @@ pub mod Tidy
 pub mod Fed
 pub mod Grown
 pub mod Kept
-pub mod Codes
 pub mod Written
 pub mod Sides
 pub mod Hat
@@ -34,7 +32,5 @@ pub mod HatNames
 pub mod Presses
 pub mod Hats
 pub mod HatGrown
-pub mod Dpad
-pub mod Opposites
 pub mod Touched
 pub mod Small

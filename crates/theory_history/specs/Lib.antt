@@ -3,6 +3,3 @@ mod Example
 pub mod Lemmas
 pub mod Played
 pub mod Pumps
-pub mod Demand
-pub mod Directions
-pub mod Repeated

@@ -1,2 +1,2 @@
-// Theorems about the definitions of `rules`, in specs/. No function.
+// Theorems about the definitions of `rules`, in specs/ and proofs/. No function.
 #![tactic(auto)]

@@ -1,6 +1,6 @@
 -- The partner of an axis, looked up by its name, has a code whose place has that name: a place with a name is a listed element's, and a listed code is found
 -- where it stands. So a clearing event is of an axis.
-use Rattle.std.specs.Prelude.{ℕ, zero, suc, ◌+◌, ◌-◌, ◌*◌, ◌<◌, Bool, true, false, cond, ◌&&◌, List, [], ◌∷◌, ◌⊎◌, ◌≡◌, refl, eqb, ltb, length, get_or}
+use Rattle.std.specs.Prelude.{ℕ, ◌+◌, ◌-◌, ◌*◌, ◌<◌, Bool, true, false, cond, List, ◌⊎◌, ◌≡◌, refl, eqb, ltb, get_or}
 use Rattle.std.proofs.Common.{inl, inr, sym, ◌∙◌, ap, arith, ltb-true, eqb-true}
 use Rattle.std.proofs.lemmas.Bool.{eqb-false}
 use Rattle.rules.specs.declared.Hub.{Hub}

@@ -27,7 +27,7 @@ use Rattle.theory_history.specs.Lemmas.Steps.{look, look_at}
 use Rattle.theory_history.specs.Lemmas.Waits.{Sheet, sheet_of}
 use Rattle.theory_history.specs.Lemmas.Accepted.{Good}
 use Rattle.theory_history.specs.Lemmas.Records.{foreign-joins}
-use Rattle.theory_history.specs.Lemmas.Concerned.{spoken-listed}
+use Rattle.theory_history.proofs.Lemmas.Concerned.{spoken-listed}
 use Rattle.theory_history.specs.Played.{Played, reached, ready}
 use Rattle.theory_history.specs.Lemmas.Register.{listed_found}
 use Rattle.theory_history.specs.Lemmas.Sorts.{Same, same-sheets, same_place, step_same, update_same}
@@ -35,7 +35,8 @@ use Rattle.theory_history.specs.Lemmas.Tidy.{tidy}
 use Rattle.theory_history.specs.Lemmas.Fed.{repeat-cell, repeat-hasaxis, update-sheet, update-queue}
 use Rattle.theory_history.specs.Lemmas.Kept.{grown, Keeps, kept, unseen}
 use Rattle.theory_history.specs.Lemmas.Sides.{Side, side-by, served-side}
-use Rattle.theory_history.specs.Lemmas.Hats.{Unlisted, Sheeted, name_by, turns, moves, joined-side, other-side, turned-side}
+use Rattle.theory_history.specs.Lemmas.Hats.{Unlisted, Sheeted, name_by, turns}
+use Rattle.theory_history.proofs.Lemmas.Hats.{moves, joined-side, other-side, turned-side}
 use Rattle.theory_history.specs.Lemmas.HatGrown.{old-unlisted, old-sheeted, old-side, new-side}
 use Rattle.theory_history.specs.Lemmas.Presses.{zero-presses}
 

@@ -29,12 +29,12 @@ use Rattle.theory_history.specs.Lemmas.Cells.{cell_at}
 use Rattle.theory_history.specs.Lemmas.Turns.{ev}
 use Rattle.theory_history.specs.Lemmas.Steps.{Ready, look, look_at}
 use Rattle.theory_history.specs.Lemmas.Waits.{sheet_of, zoned_at}
-use Rattle.theory_history.specs.Lemmas.Served.{value}
 use Rattle.theory_history.specs.Lemmas.Serve.{Tells, serve-tells}
 use Rattle.theory_history.specs.Lemmas.Accepted.{Good}
 use Rattle.theory_history.specs.Lemmas.Own.{folded}
-use Rattle.theory_history.specs.Lemmas.Records.{Place, foreign-joins, rejoined, unconcerned}
-use Rattle.theory_history.specs.Lemmas.Concerned.{Concerns, concerned, button-taken, trigger-taken, spoken-listed}
+use Rattle.theory_history.specs.Lemmas.Records.{Place, foreign-joins}
+use Rattle.theory_history.proofs.Lemmas.Records.{rejoined, unconcerned}
+use Rattle.theory_history.proofs.Lemmas.Concerned.{Concerns, concerned, button-taken, trigger-taken, spoken-listed}
 use Rattle.theory_history.specs.Played.{Played, reached, ready}
 use Rattle.theory_history.specs.Lemmas.Kept.{grown, Keeps, kept, unseen}
 use Rattle.theory_history.specs.Lemmas.Sorts.{Sort, button, silent, trigger, reads_of, Is, Same, same_place, place-back, is-back, step_same, counted_same, update_same, old-back, old-is}

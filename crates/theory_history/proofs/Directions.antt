@@ -28,9 +28,9 @@ use Rattle.theory_history.specs.Played.{Played, reached}
 use Rattle.theory_history.specs.Lemmas.Written.{writes, never-now}
 use Rattle.theory_history.specs.Lemmas.Sides.{Shows, Side}
 use Rattle.theory_history.specs.Lemmas.Hats.{Unlisted}
-use Rattle.theory_history.specs.Lemmas.Dpad.{sides}
-use Rattle.theory_history.specs.Lemmas.Opposites.{opposed}
-use Rattle.theory_history.specs.Demand.{asked-pressed, asked-value, standing-truth, standing-value, cell-pressed, cell-value}
+use Rattle.theory_history.proofs.Lemmas.Dpad.{sides}
+use Rattle.theory_history.proofs.Lemmas.Opposites.{opposed}
+use Rattle.theory_history.proofs.Demand.{asked-pressed, asked-value, standing-truth, standing-value, cell-pressed, cell-value}
 
 module _ {h : Hub} {rs : List RawRecord} (w : Played h rs) (p n : ℕ) (old : p < h.pads) (converts : get_or h.converts p false ≡ true)
     (hat : is_hat n ≡ true) where

@@ -28,8 +28,8 @@ use Rattle.theory_history.specs.Lemmas.Serve.{Tells}
 use Rattle.theory_history.specs.Lemmas.Records.{Place, none-waits}
 use Rattle.theory_history.specs.Played.{Played, reached}
 use Rattle.theory_history.specs.Lemmas.Register.{listed_found}
-use Rattle.theory_history.specs.Lemmas.Sorts.{button, trigger, Is, silent}
-use Rattle.theory_history.specs.Lemmas.Codes.{tells}
+use Rattle.theory_history.specs.Lemmas.Sorts.{button, trigger, silent}
+use Rattle.theory_history.proofs.Lemmas.Codes.{tells}
 use Rattle.theory_history.specs.Lemmas.Truth.{false-true, true-false}
 use Rattle.theory_history.specs.Lemmas.Partner.{unlisted-name}
 

@@ -33,7 +33,8 @@ use Rattle.theory_history.specs.Lemmas.Serve.{Tells}
 use Rattle.theory_history.specs.Lemmas.Accepted.{Good}
 use Rattle.theory_history.specs.Lemmas.Take.{Fine, take-tells, taken_as}
 use Rattle.theory_history.specs.Lemmas.Own.{press-fine, trigger-fine, folded}
-use Rattle.theory_history.specs.Lemmas.Records.{Place, After, now-pressed, now-fits, still, same}
+use Rattle.theory_history.specs.Lemmas.Records.{Place}
+use Rattle.theory_history.proofs.Lemmas.Records.{After, now-pressed, now-fits, still, same}
 use Rattle.theory_history.specs.Lemmas.Truth.{false-true}
 
 -- ---- what a record that concerns a code is

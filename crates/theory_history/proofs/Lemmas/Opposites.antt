@@ -23,7 +23,8 @@ use Rattle.theory_history.specs.Lemmas.Tidy.{tidy}
 use Rattle.theory_history.specs.Lemmas.Fed.{repeat-cell, update-sheet, update-queue}
 use Rattle.theory_history.specs.Lemmas.Kept.{Keeps, kept}
 use Rattle.theory_history.specs.Lemmas.Sides.{Opposed, opposed-by, served-opposed}
-use Rattle.theory_history.specs.Lemmas.Hats.{Unlisted, record-opposed}
+use Rattle.theory_history.specs.Lemmas.Hats.{Unlisted}
+use Rattle.theory_history.proofs.Lemmas.Hats.{record-opposed}
 use Rattle.theory_history.specs.Lemmas.HatGrown.{old-unlisted, old-opposed, new-opposed}
 
 module _ (p n : ℕ) where

@@ -1,0 +1,5 @@
+pub mod Lemmas
+pub mod Pumps
+pub mod Demand
+pub mod Directions
+pub mod Repeated
