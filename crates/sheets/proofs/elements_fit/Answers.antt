@@ -28,11 +28,10 @@ loop-i-preserved c =
     let l = c.loop-i in
     let h : l.i < c.args.count = omega arith in
     let fits : element_fits (element_of s l.i) ≡ true =
-    ap element_fits (sym c.element.ensures) ∙ sym c.element_fits.ensures ∙ c.if-not-element_fits.false in
-    (
+    ap element_fits (sym c.element.ensures) ∙ sym c.element_fits.ensures ∙ c.if-not-element_fits.false in (
       omega arith,
       all_more (elements_fit s) (element_test s) (elements-none s) (elements-more s) c.args.count l.i h
-      (rw (fits, sym c.rises_at.ensures ∙ c.if-not-rises_at.false)) ∙ l.invariant.1,
+          (rw (fits, sym c.rises_at.ensures ∙ c.if-not-rises_at.false)) ∙ l.invariant.1,
     )
 
 pub returns : goal.returns

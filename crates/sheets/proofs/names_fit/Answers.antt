@@ -16,11 +16,10 @@ pub loop-i-preserved : goal.loop-i-preserved
 loop-i-preserved c =
     let s = c.args.s.now in
     let l = c.loop-i in
-    let h : l.i < length s = omega arith in
-    (
+    let h : l.i < length s = omega arith in (
       omega arith,
       all_more (names_fit s) (name_test s) (names-none s) (names_more s) (length s) l.i h
-      (sym c.name_allowed.ensures ∙ c.if-not-name_allowed.false) ∙ l.invariant.1,
+          (sym c.name_allowed.ensures ∙ c.if-not-name_allowed.false) ∙ l.invariant.1,
     )
 
 pub returns : goal.returns
