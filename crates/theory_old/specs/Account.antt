@@ -112,7 +112,7 @@ not-archived true false partial was came before e = refl
 not-archived false archived partial was came before e = before e
 
 -- it did not come old
-came-archived : {h : Hub} (p : ℕ) (w : Reached h) → archived_in p w ≡ false → came_old p w ≡ false
+pub came-archived : {h : Hub} (p : ℕ) (w : Reached h) → archived_in p w ≡ false → came_old p w ≡ false
 unfolding archived_in came_old archived_partial
 came-archived p (new pressed released reversed filters updates) e = refl
 came-archived p (register {h} archived sheet w) e =
@@ -123,7 +123,3 @@ came-archived p (update event w) e = came-archived p w e
 came-archived p (insert event w) e = came-archived p w e
 came-archived p (inc w) e = came-archived p w e
 came-archived p (reset w) e = came-archived p w e
-
--- and never is
-pub plain-not-old : {h : Hub} (p : ℕ) (w : Reached h) → archived_in p w ≡ false → old_in p w ≡ false
-plain-not-old p w e = rw (old-sentence p w, came-archived p w e)

@@ -13,7 +13,7 @@ use Rattle.rules.specs.Forms.{record_bytes, kind_connected}
 use Rattle.rules.specs.Sheets.{partial_of, sheet_bytes, element_button}
 use Rattle.rules.specs.Hub.{hats_now}
 use Rattle.rules.specs.Step.{next_record_of, step_hub}
-use Rattle.rules.specs.Calls.{new_of, register_as, register_of, register_archived_of, rename_of}
+use Rattle.rules.specs.Calls.{register_as, register_of, register_archived_of, rename_of}
 use Rattle.rules.specs.Queries.{old_of}
 use Rattle.rules.specs.Answers.{register_says}
 use Rattle.theory_calls.specs.Reach.{Reached, new, register, rename, step}

@@ -1,9 +1,8 @@
 -- "that two answers meeting a promise are equal is proved": here for each function behind the public calls whose contract is not an equation alone, but
 -- a record or a pair that holds one beside what its callers need: a bound to index by, or that a button is due. By that equation, a line for each
 -- function by name. For every contract that is one equation it is `one-equation` of `theory_calls/specs/Unique.antt`. Numbers are the contracts' own.
-use Rattle.std.specs.Prelude.{ℕ, ◌+◌, ◌*◌, ◌%◌, ◌^◌, ◌<◌, ◌≤◌, Bool, cond, List, ◌++◌, ◌≡◌, leb, length}
+use Rattle.std.specs.Prelude.{ℕ, ◌+◌, ◌%◌, ◌^◌, ◌<◌, ◌≤◌, Bool, cond, List, ◌≡◌, leb, length}
 use Rattle.rules.specs.declared.Event.{Event}
-use Rattle.rules.specs.declared.EventForm.{EventForm}
 use Rattle.rules.specs.declared.View.{View}
 use Rattle.rules.specs.Forms.{field_of}
 use Rattle.rules.specs.Names.{places_per_pad}
@@ -15,7 +14,6 @@ use Rattle.gather.specs.EventPlaces.{PlaceIs, FoundIs, EventPlacesAre}
 use Rattle.rules.specs.Hub.{partner_place_of}
 use Rattle.filters.specs.Converted.{ConvertedIs}
 use Rattle.turn.specs.Turn.{RingIs}
-use Rattle.lines.specs.Text.{number_text, hex_text, word_of, line_of, stopped_line, held_of, lines_of}
 use Rattle.lines.specs.Appending.{laid_over, Appended}
 use Rattle.theory_calls.specs.Unique.{One, one-owed}
 
@@ -72,37 +70,12 @@ unique-front head = one-owed _ (λ r w. w.is)
 pub unique-free : (head waiting : ℕ) → One (RingIs (slot_at head waiting))
 unique-free head waiting = one-owed _ (λ r w. w.is)
 
--- ---- lines: the lent buffer, every byte, and the next place
+-- ---- lines: the lent buffer, every byte, and the next place (each function's line: `proofs/Functions.antt`)
 
 abbrev pub Leaves : ℕ → List ℕ → List ℕ → ℕ → List ℕ × ℕ → Type 0
 Leaves room text before at r = Appended room text before at r.0 r.1
 
-one-appended : (room : ℕ) (text before : List ℕ) (at : ℕ) → One (Leaves room text before at)
+pub one-appended : (room : ℕ) (text before : List ℕ) (at : ℕ) → One (Leaves room text before at)
 one-appended room text before at =
     one-owed (cond (leb (at + room) (length before)) (laid_over before at text) before, cond (leb (at + room) (length before)) (at + length text) at)
     (λ r w i. (w.is i, w.place i))
-
-module _ (before : List ℕ) (at : ℕ) where
-  pub unique-append : (text : List ℕ) → One (Leaves (length text) text before at)
-  unique-append text = one-appended _ _ before at
-
-  pub unique-number : (n end : ℕ) → One (Leaves 21 (number_text n end) before at)
-  unique-number n end = one-appended _ _ before at
-
-  pub unique-hex : (x end : ℕ) → One (Leaves 9 (hex_text x end) before at)
-  unique-hex x end = one-appended _ _ before at
-
-  pub unique-word : (kind : ℕ) → One (Leaves (length (word_of kind)) (word_of kind) before at)
-  unique-word kind = one-appended _ _ before at
-
-  pub unique-line : (event : EventForm) → One (Leaves 94 (line_of event) before at)
-  unique-line event = one-appended _ _ before at
-
-  pub unique-labelled : (label : List ℕ) (n end : ℕ) → One (Leaves (length label + 21) (label ++ number_text n end) before at)
-  unique-labelled label n end = one-appended _ _ before at
-
-  pub unique-stopped : (refusal place : ℕ) → One (Leaves 50 (stopped_line refusal place) before at)
-  unique-stopped refusal place = one-appended _ _ before at
-
-  pub unique-lines : (events : List ℕ) (count : ℕ) → One (Leaves (94 * held_of events count) (lines_of events (held_of events count)) before at)
-  unique-lines events count = one-appended _ _ before at

@@ -2,7 +2,7 @@
 -- `is_old` answers the account, wherever a pump stops too, and for a pad of the plain call always no. By induction on the calls: a registration writes the next
 -- pad's hats, a rename and Connected a pad's mark that it is renamed, and no other call any of these. That no sheet with partial hats comes by the plain call is
 -- the refusal 29.
-use Prim.Native.Nat.{ℕ, zero, suc, ◌+◌, ◌<◌, ◌≤◌}
+use Prim.Native.Nat.{ℕ, zero, suc, ◌+◌, ◌<◌}
 use Rattle.std.specs.Prelude.{Bool, cond, ◌&&◌, List, [], ◌∷◌, ◌≡◌, eqb, ltb, Float, length, set}
 use Rattle.std.proofs.Math.Bool.{true, false}
 use Rattle.std.proofs.Math.Path.{refl, ap}
@@ -31,8 +31,9 @@ use Rattle.theory_registered.specs.Columns.{accepted, either-taken}
 use Rattle.theory_registered.specs.Pads.{Desk}
 use Rattle.theory_registered.proofs.Pads.{reached-desk}
 use Rattle.theory_held.specs.Applied.{joins, connects}
-use Rattle.theory_old.specs.Refused.{taken-partial}
-use Rattle.theory_old.specs.Account.{archived_partial, done, archived_in, came_old, old_in, plain-not-old}
+use Rattle.theory_old.proofs.Refused.{taken-partial}
+use Rattle.theory_old.specs.Account.{archived_partial, done, archived_in, came_old, old_in}
+use Rattle.theory_old.proofs.Account.{plain-not-old}
 
 -- what a hub has of pad p: the sheet's hats are partial as `came` says, and the present ones as `old` says
 record Told (h : Hub) (p : ℕ) (came old : Bool) : Type 0 where
