@@ -1,6 +1,6 @@
 -- Whether a pad converts, told over its sheet's elements, is what the hub keeps: a direction has a name where a listed element has its code and a name, and some
 -- place is named DPadRight where a listed element is.
-use Rattle.std.specs.Prelude.{ℕ, zero, suc, ◌+◌, ◌-◌, ◌*◌, ◌/◌, ◌<◌, ◌≤◌, Bool, not, ◌&&◌, ◌||◌, List, ◌⊎◌, ◌≡◌, ltb}
+use Rattle.std.specs.Prelude.{ℕ, zero, suc, ◌+◌, ◌-◌, ◌*◌, ◌<◌, ◌≤◌, Bool, not, ◌&&◌, ◌||◌, List, ◌⊎◌, ◌≡◌, ltb}
 use Rattle.std.proofs.Math.Bool.{true, false}
 use Rattle.std.proofs.Common.{inl, inr, ◌∙◌}
 use Rattle.std.proofs.Math.Path.{refl, sym, ap}
@@ -13,7 +13,7 @@ use Rattle.rules.specs.declared.Row.{Row}
 use Rattle.rules.specs.declared.SheetElement.{SheetElement}
 use Rattle.rules.specs.Names.{pad_limit, places_per_pad, nowhere, no_name, dpad_right, code_up, code_down, code_left, code_right}
 use Rattle.rules.specs.Sheets.{hats_of, count_of, element_of, last_hats}
-use Rattle.rules.specs.Places.{place_of, scan_of, named_of, listed_row, unlisted_row, code_named, direction_named, converts_of}
+use Rattle.rules.specs.Places.{scan_of, named_of, unlisted_row, code_named, direction_named, converts_of}
 use Rattle.rules.specs.Hub.{place_in}
 use Rattle.rules.specs.Calls.{row_name}
 use Rattle.pad.specs.Lookup.{place-stands, named-stands, named_small, Absent, First, scan-cases}
@@ -24,7 +24,7 @@ use Rattle.theory_registered.specs.Listing.{Of, row_of, row-name}
 use Rattle.theory_registered.specs.Pads.{Desk, Kept}
 use Rattle.theory_history.specs.Rule.{is_direction}
 use Rattle.theory_history.specs.Lemmas.Truth.{false-true, true-false}
-use Rattle.theory_demand3.specs.Demand3.{Sheet, elements_from, sheet_read, Lookup, listed, unlisted, lookup, lookup_name, speaks_of_hats, converts}
+use Rattle.theory_demand3.specs.Demand3.{elements_from, sheet_read, Lookup, listed, unlisted, lookup, lookup_name, speaks_of_hats, converts}
 use Rattle.theory_demand3.specs.Listed.{lookup-among, name-kept}
 
 -- what holds of the four directions holds of any

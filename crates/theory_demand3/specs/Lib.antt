@@ -1,11 +1,6 @@
 pub mod Demand3
-pub mod Scripts
 pub mod Listed
 pub mod Converting
-pub mod Reading
 pub mod Before
-pub mod Counts
-pub mod Inside
 pub mod Example
 pub mod Wrong
-pub mod Theorem

@@ -1,21 +1,19 @@
 -- What a sheet reads is what the hub keeps of the pad that was registered with it: a listed code has its element's kind, name and limits, a code that is not
 -- listed has none of these, and the pad converts where the sheet's elements say so.
-use Rattle.std.specs.Prelude.{ℕ, zero, suc, ◌+◌, ◌-◌, ◌*◌, ◌/◌, ◌<◌, ◌≤◌, Bool, true, false, cond, not, ◌&&◌, ◌||◌, List, [], ◌∷◌, ◌⊎◌, ◌≡◌, eqb, ltb, get_or}
-use Rattle.std.proofs.Common.{inl, inr, sym, ◌∙◌, ap, arith, eqb-true, eq-eqb, ltb-true, ltb-false}
+use Rattle.std.specs.Prelude.{ℕ, zero, suc, ◌+◌, ◌<◌, ◌≤◌, Bool, true, false, List, ◌≡◌, eqb, get_or}
+use Rattle.std.proofs.Common.{◌∙◌, ap, arith, eqb-true}
 use Rattle.std.proofs.Math.Path.{refl, subst}
 use Rattle.std.proofs.lemmas.Bool.{eqb-false}
 use Rattle.rules.specs.declared.Hub.{Hub}
-use Rattle.rules.specs.declared.Element.{Element}
 use Rattle.rules.specs.declared.SheetElement.{SheetElement}
-use Rattle.rules.specs.Names.{pad_limit, places_per_pad, nowhere, no_name, dpad_right, code_up, code_down, code_left, code_right}
-use Rattle.rules.specs.Sheets.{hats_of, count_of, element_of, last_hats}
-use Rattle.rules.specs.Places.{place_of, named_of, listed_row, no_element, code_named, direction_named, converts_of}
+use Rattle.rules.specs.Names.{pad_limit, nowhere, no_name}
+use Rattle.rules.specs.Sheets.{count_of, element_of}
+use Rattle.rules.specs.Places.{listed_row}
 use Rattle.rules.specs.Hub.{place_in, kind_at, element_at}
 use Rattle.theory_registered.specs.Found as kept
 use Rattle.theory_registered.specs.Listing.{Bare, bare}
-use Rattle.theory_registered.specs.Pads.{Desk, Kept}
-use Rattle.theory_history.specs.Rule.{is_direction}
-use Rattle.theory_demand3.specs.Demand3.{Sheet, elements_from, sheet_read, Lookup, listed, unlisted, lookup, lookup_name, lookup_element, speaks_of_hats, converts}
+use Rattle.theory_registered.specs.Pads.{Kept}
+use Rattle.theory_demand3.specs.Demand3.{elements_from, sheet_read, Lookup, listed, unlisted, lookup, lookup_name, lookup_element}
 
 -- ---- the element that a lookup finds
 

@@ -1,23 +1,22 @@
 -- 01's wrong machines against demand 3: "one that converts the first hat move and then only advances its place (demands 2 and 3)", and one that leaves the hub as
--- it is and answers that the batch is used up. Neither meets demand 3; 01's padlog example, computed by the checker, is the script on which each fails.
-use Rattle.std.specs.Prelude.{ℕ, zero, suc, ◌+◌, ◌<◌, Bool, true, false, ◌&&◌, List, [], ◌∷◌, ◌≡◌, refl, ltb, pos, negsuc, length, get_or, take}
-use Rattle.std.proofs.Common.{sym, ◌∙◌, arith, ltb-true}
+-- it is and answers that the batch is used up. What each does with 01's padlog example, computed by the checker; `proofs/Wrong` refutes demand 3 of both by it.
+use Rattle.std.specs.Prelude.{ℕ, zero, suc, ◌+◌, Bool, true, false, ◌&&◌, List, [], ◌∷◌, ◌≡◌, refl, ltb, pos, negsuc, length, take}
+use Rattle.std.proofs.Common.{sym, arith, ltb-true}
 use Rattle.std.specs.Float.Ieee as Ieee
-use Rattle.rules.specs.declared.RawRecord.{RawRecord}
 use Rattle.rules.specs.declared.PumpAnswer.TheVariants.{Drained}
 use Rattle.rules.specs.declared.TruthAnswer.{TruthAnswer}
 use Rattle.rules.specs.declared.TruthAnswer.TheVariants as truth_answer
 use Rattle.rules.specs.Names.{code_left, code_right}
 use Rattle.rules.specs.Forms.{record_size, record_fields}
 use Rattle.rules.specs.Refusals.{thresholds_refusal}
-use Rattle.rules.specs.Pump.{Run, pump_of}
+use Rattle.rules.specs.Pump.{pump_of}
 use Rattle.rules.specs.Calls.{new_of, register_as}
 use Rattle.rules.specs.Queries.{pressed_by_code}
-use Rattle.theory_calls.specs.Machines.{Machine, sheet, move, said, events_said, steps_said}
-use Rattle.theory_history.specs.Rule.{byte_limit, Bytes, records_from, Reading, held}
+use Rattle.theory_calls.specs.Machines.{Machine, sheet, move, events_said, steps_said}
+use Rattle.theory_history.specs.Rule.{byte_limit, Bytes, records_from}
 use Rattle.theory_history.specs.Lemmas.Truth.{true-false}
-use Rattle.theory_demand3.specs.Demand3.{Script, Allowed, play, settings_of, records_of, sheet_read, sheets_of, no_sheet, says, rule_reads, Demand3}
-use Rattle.theory_demand3.specs.Example.{padlog, pushed, example, hasaxis, rule-right, rule-pushed}
+use Rattle.theory_demand3.specs.Demand3.{Allowed, play, records_of, sheet_read, sheets_of}
+use Rattle.theory_demand3.specs.Example.{padlog, pushed, example, hasaxis}
 
 -- ---- bytes
 
@@ -57,73 +56,52 @@ sheet-bytes : below sheet ≡ true
 unfolding below sheet
 sheet-bytes = refl
 
-pushed-allowed : Allowed pushed
+pub pushed-allowed : Allowed pushed
 unfolding pushed padlog thresholds_refusal Ieee.of_bits Ieee.lt Ieee.le Ieee.eq Ieee.ne Ieee.of_int Ieee.sub Ieee.mul Ieee.div Ieee.neg Ieee.add
 pushed-allowed = ((refl, bytes sheet sheet-bytes), tt)
 
-example-allowed : Allowed example
+pub example-allowed : Allowed example
 unfolding example padlog thresholds_refusal Ieee.of_bits Ieee.lt Ieee.le Ieee.eq Ieee.ne Ieee.of_int Ieee.sub Ieee.mul Ieee.div Ieee.neg Ieee.add
 example-allowed = ((refl, bytes sheet sheet-bytes), tt)
 
 -- ---- what a query answers
 
-clash : (a : TruthAnswer) → a ≡ truth_answer.Is true → a ≡ truth_answer.Is false → ⊥
+pub clash : (a : TruthAnswer) → a ≡ truth_answer.Is true → a ≡ truth_answer.Is false → ⊥
 clash a e f = let z : ◌≡◌ {A = ℕ} 0 1 = cc in omega arith
 
 -- the one sheet that is registered, whatever the pump
-pushed-sheets : (m : Machine) → sheets_of m pushed ≡ sheet_read sheet ∷ []
+pub pushed-sheets : (m : Machine) → sheets_of m pushed ≡ sheet_read sheet ∷ []
 unfolding pushed padlog sheet sheets_of new_of register_as Ieee.of_bits Ieee.lt Ieee.le Ieee.eq Ieee.ne Ieee.of_int Ieee.sub Ieee.mul Ieee.div Ieee.neg Ieee.add
 pushed-sheets m = refl
 
-example-sheets : (m : Machine) → sheets_of m example ≡ sheet_read sheet ∷ []
+pub example-sheets : (m : Machine) → sheets_of m example ≡ sheet_read sheet ∷ []
 unfolding example padlog sheet sheets_of new_of register_as Ieee.of_bits Ieee.lt Ieee.le Ieee.eq Ieee.ne Ieee.of_int Ieee.sub Ieee.mul Ieee.div Ieee.neg Ieee.add
 example-sheets m = refl
 
--- the rule's case, and the pad's
-module _ (m : Machine) (s : Script) (rs : List RawRecord) (sheets : sheets_of m s ≡ sheet_read sheet ∷ []) (settings : settings_of s ≡ padlog) (records : records_of m s ≡ rs) where
-  told : (c : ℕ) (x : Reading) → rule_reads padlog (sheet_read sheet) 0 c rs ≡ says x
-      → rule_reads (settings_of s) (get_or (sheets_of m s) 0 no_sheet) 0 c (records_of m s) ≡ says x
-  told c x is = rw (sheets, settings, records) is
-
-  registered : 0 < length (sheets_of m s)
-  registered = rw sheets (omega arith)
-
-  refuted : Allowed s → (play m s).waiting ≡ 0 → (c : ℕ) → rule_reads padlog (sheet_read sheet) 0 c rs ≡ says (held true)
-      → pressed_by_code (play m s) 0 c ≡ truth_answer.Is false → Demand3 m → ⊥
-  refuted ok none c is other d = clash (pressed_by_code (play m s) 0 c) (d.reads s ok none 0 c (held true) registered (told c (held true) is)).pressed other
-
 -- ---- the hub stays as it is: the rule says that Left is pressed, and it does not read so
 
-leaves_none : (play leaves pushed).waiting ≡ 0
+pub leaves_none : (play leaves pushed).waiting ≡ 0
 unfolding leaves pushed padlog sheet play new_of register_as Ieee.of_bits Ieee.lt Ieee.le Ieee.eq Ieee.ne Ieee.of_int Ieee.sub Ieee.mul Ieee.div Ieee.neg Ieee.add
 leaves_none = refl
 
-leaves-records : records_of leaves pushed ≡ hasaxis (negsuc 0) 100 ∷ []
+pub leaves-records : records_of leaves pushed ≡ hasaxis (negsuc 0) 100 ∷ []
 unfolding leaves pushed padlog sheet move records_of records_from record_fields new_of register_as Ieee.of_bits Ieee.lt Ieee.le Ieee.eq Ieee.ne Ieee.of_int Ieee.sub Ieee.mul Ieee.div Ieee.neg Ieee.add
 leaves-records = refl
 
-leaves-left : pressed_by_code (play leaves pushed) 0 code_left ≡ truth_answer.Is false
+pub leaves-left : pressed_by_code (play leaves pushed) 0 code_left ≡ truth_answer.Is false
 unfolding leaves pushed padlog sheet play new_of register_as pressed_by_code Ieee.of_bits Ieee.lt Ieee.le Ieee.eq Ieee.ne Ieee.of_int Ieee.sub Ieee.mul Ieee.div Ieee.neg Ieee.add
 leaves-left = refl
 
-pub leaves-refuted : Demand3 leaves → ⊥
-unfolding pushed settings_of
-leaves-refuted = refuted leaves pushed _ (pushed-sheets leaves) refl leaves-records pushed-allowed leaves_none code_left rule-pushed leaves-left
-
 -- ---- the second record is only passed over: the rule says that Right is pressed, and it does not read so
 
-advances-none : (play only_advances example).waiting ≡ 0
+pub advances-none : (play only_advances example).waiting ≡ 0
 unfolding only_advances example padlog sheet move play new_of register_as pump_of Ieee.of_bits Ieee.lt Ieee.le Ieee.eq Ieee.ne Ieee.of_int Ieee.sub Ieee.mul Ieee.div Ieee.neg Ieee.add
 advances-none = refl
 
-advances-records : records_of only_advances example ≡ hasaxis (pos 1) 200 ∷ hasaxis (negsuc 0) 100 ∷ []
+pub advances-records : records_of only_advances example ≡ hasaxis (pos 1) 200 ∷ hasaxis (negsuc 0) 100 ∷ []
 unfolding only_advances example padlog sheet move records_of records_from new_of register_as pump_of Ieee.of_bits Ieee.lt Ieee.le Ieee.eq Ieee.ne Ieee.of_int Ieee.sub Ieee.mul Ieee.div Ieee.neg Ieee.add
 advances-records = refl
 
-advances-right : pressed_by_code (play only_advances example) 0 code_right ≡ truth_answer.Is false
+pub advances-right : pressed_by_code (play only_advances example) 0 code_right ≡ truth_answer.Is false
 unfolding only_advances example padlog sheet move play new_of register_as pump_of pressed_by_code Ieee.of_bits Ieee.lt Ieee.le Ieee.eq Ieee.ne Ieee.of_int Ieee.sub Ieee.mul Ieee.div Ieee.neg Ieee.add
 advances-right = refl
-
-pub advances-refuted : Demand3 only_advances → ⊥
-unfolding example settings_of
-advances-refuted = refuted only_advances example _ (example-sheets only_advances) refl advances-records example-allowed advances-none code_right rule-right advances-right

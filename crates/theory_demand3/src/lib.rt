@@ -1,2 +1,2 @@
-// Demand 3 on one page, in specs/. No function.
+// Demand 3 on one page, in specs/, and its proof, in proofs/. No function.
 #![tactic(auto)]

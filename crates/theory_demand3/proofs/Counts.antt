@@ -17,7 +17,7 @@ use Rattle.theory_history.specs.Lemmas.Handed.{Still, none-still, register-still
 use Rattle.theory_history.specs.Pumps.{most_handed}
 use Rattle.theory_history.proofs.Pumps.{pump-counts}
 use Rattle.theory_demand3.specs.Demand3.{Call, register, pump, inc, reset, repeat, Script, ◌then◌, goes_on, Allowed, fed_back, play, records_of, events_of}
-use Rattle.theory_demand3.specs.Scripts.{script-played}
+use Rattle.theory_demand3.proofs.Scripts.{script-played}
 use Rattle.theory_demand3.specs.Before.{pump-before}
 
 pub records-length : (n : ℕ) (s : List ℕ) (at : ℕ) (rs : List RawRecord) → length (records_from n s at rs) ≡ n + length rs

@@ -1,6 +1,6 @@
 -- The hub after a script: it is played by the records that the script took, it has the script's settings, and it keeps the sheets that were accepted. By
 -- induction on the calls; only registration touches the sheets, and only a pump takes records.
-use Rattle.std.specs.Prelude.{ℕ, zero, suc, ◌+◌, ◌-◌, ◌*◌, ◌/◌, ◌<◌, ◌≤◌, Bool, true, false, List, [], ◌∷◌, ◌++◌, ◌≡◌, refl, ltb, length, get_or}
+use Rattle.std.specs.Prelude.{ℕ, zero, suc, ◌+◌, ◌-◌, ◌*◌, ◌/◌, ◌<◌, Bool, true, false, List, [], ◌∷◌, ◌++◌, ◌≡◌, refl, ltb, length, get_or}
 use Rattle.std.proofs.Common.{sym, ◌∙◌, ap, subst, length-append, arith, ltb-true, ltb-false}
 use Rattle.std.proofs.Math.ListN.{get_or-append}
 use Rattle.std.proofs.Math.Seq.{get_or-append_seam}
@@ -10,7 +10,6 @@ use Rattle.rules.specs.declared.EventRead.{EventRead}
 use Rattle.rules.specs.declared.EventRead.TheVariants as event_read
 use Rattle.rules.specs.declared.RepeatAnswer.{RepeatAnswer}
 use Rattle.rules.specs.declared.RepeatAnswer.TheVariants as repeat_answer
-use Rattle.rules.specs.Names.{pad_limit}
 use Rattle.rules.specs.Forms.{read_event, record_size}
 use Rattle.rules.specs.Events.{event_bytes}
 use Rattle.rules.specs.Repeat.{repeat_of}
@@ -25,7 +24,6 @@ use Rattle.theory_registered.proofs.Pads.{reached-desk}
 use Rattle.theory_history.specs.Rule.{records_from}
 use Rattle.theory_history.specs.Played as played
 use Rattle.theory_history.specs.Played.{Played, reached}
-use Rattle.theory_history.specs.Pumps.{Took}
 use Rattle.theory_history.proofs.Pumps.{pump-took}
 use Rattle.theory_history.specs.Lemmas.Small.{Small, new-small, register-small, pump-small, update-small, counted-small}
 use Rattle.theory_history.proofs.Repeated.{repeats}

@@ -1,17 +1,14 @@
 -- Demand 3 holds of the pump. The hub after a script is played by the records that the script took (Scripts), so history's theorems say what its codes read;
 -- what they ask of the hub's columns is read off the sheet's bytes (Listed, Converting, Reading).
-use Rattle.std.specs.Prelude.{ℕ, ◌<◌, ◌≤◌, true, false, ◌≡◌, length, get_or}
-use Rattle.std.proofs.Common.{sym, subst}
+use Rattle.std.specs.Prelude.{ℕ, ◌<◌, true, false, ◌≡◌, length, get_or}
 use Rattle.rules.specs.declared.TruthAnswer.TheVariants as truth_answer
 use Rattle.rules.specs.Pump.{pump_of}
 use Rattle.rules.specs.Queries.{pressed_by_code}
-use Rattle.theory_calls.specs.Machines.{said, place_said, steps_said}
 use Rattle.theory_history.specs.Rule.{Reading, Reads}
-use Rattle.theory_history.specs.Played.{reached}
 use Rattle.theory_demand3.specs.Demand3.{Script, Allowed, play, settings_of, records_of, Sheet, sheets_of, no_sheet, unlisted, lookup, converts, says, rule_reads, Opposite, Demand3}
-use Rattle.theory_demand3.specs.Scripts.{Registered, script-played, script-sheets, script-set}
-use Rattle.theory_demand3.specs.Reading.{code_reads, opposite-reads}
-use Rattle.theory_demand3.specs.Counts.{script-four, script-before}
+use Rattle.theory_demand3.proofs.Scripts.{Registered, script-played, script-sheets, script-set}
+use Rattle.theory_demand3.proofs.Reading.{code_reads, opposite-reads}
+use Rattle.theory_demand3.proofs.Counts.{script-four, script-before}
 
 module _ (s : Script) (ok : Allowed s) (p : ℕ) (short : p < length (sheets_of pump_of s)) where
   old : p < (play pump_of s).pads

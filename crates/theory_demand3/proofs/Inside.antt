@@ -15,8 +15,8 @@ use Rattle.theory_history.specs.Lemmas.Handed.{Still, none-still}
 use Rattle.theory_history.specs.Pumps.{most_handed}
 use Rattle.theory_history.proofs.Pumps.{pump-took, pump-counts}
 use Rattle.theory_demand3.specs.Demand3.{Call, pump, Script, ◌then◌, goes_on, Allowed, play, records_of, events_of}
-use Rattle.theory_demand3.specs.Scripts.{script-played}
-use Rattle.theory_demand3.specs.Counts.{records-length, allowed-before, Counts, counts-on, calls_count}
+use Rattle.theory_demand3.proofs.Scripts.{script-played}
+use Rattle.theory_demand3.proofs.Counts.{records-length, allowed-before, Counts, counts-on, calls_count}
 
 -- from the end of a call, after which so many events can be handed out, to the end of the call that is allowed more steps: the records taken, what can still be
 -- handed out, and what was written

@@ -1,9 +1,9 @@
 -- What a code reads is what the rule says of it, told from the sheet's bytes: by the sort of the code, each sort's theorem of history, with what the hub keeps of
 -- the code in place of what the sheet says.
-use Rattle.std.specs.Prelude.{ℕ, zero, suc, ◌+◌, ◌<◌, Bool, true, cond, ◌&&◌, ◌||◌, List, ◌≡◌, eqb, Float, length, get_or}
+use Rattle.std.specs.Prelude.{ℕ, zero, suc, ◌+◌, ◌<◌, Bool, true, cond, ◌&&◌, List, ◌≡◌, eqb, Float, get_or}
 use Rattle.std.proofs.Math.Bool.{false, not}
 use Rattle.std.proofs.Math.Path.{refl, ap}
-use Rattle.std.proofs.Common.{sym, ◌∙◌, subst, arith, eqb-true, eq-eqb}
+use Rattle.std.proofs.Common.{sym, ◌∙◌, subst, arith, eqb-true}
 use Rattle.std.specs.Float.Ieee.{eq}
 use Rattle.std.proofs.Math.ListN.{get_or-eq_default}
 use Rattle.numbers.specs.Constants.{one32, minus_one32}
@@ -14,24 +14,23 @@ use Rattle.rules.specs.declared.SheetElement.{SheetElement}
 use Rattle.rules.specs.declared.TruthAnswer.TheVariants as truth_answer
 use Rattle.rules.specs.declared.ValueAnswer.TheVariants as value_answer
 use Rattle.rules.specs.Names.{pad_limit, nowhere, is_axis, is_button, is_hat, dpad_x, dpad_y, code_up, code_down, code_left, code_right, positive_code, negative_code}
-use Rattle.rules.specs.Sheets.{element_button, element_axis, count_of, element_of}
+use Rattle.rules.specs.Sheets.{element_button, element_axis, count_of}
 use Rattle.rules.specs.Places.{directions, listed_row}
 use Rattle.rules.specs.State.{read_pressed, read_value}
-use Rattle.rules.specs.Hub.{place_in, kind_at, element_at, pressed_at, value_at, has_button_at, has_axis_at}
+use Rattle.rules.specs.Hub.{place_in, kind_at, pressed_at, value_at, has_button_at, has_axis_at}
 use Rattle.rules.specs.Queries.{pressed_by_code}
 use Rattle.theory_registered.specs.Directions.{direction-found}
 use Rattle.theory_registered.specs.Unlisted.{not_found}
 use Rattle.theory_registered.specs.Pads.{Desk, Kept}
 use Rattle.theory_registered.proofs.Pads.{reached-desk}
 use Rattle.theory_history.specs.Rule.{Reading, Reads, nothing, held, is_direction, button_reads, trigger_reads, hat_value}
-use Rattle.theory_history.specs.Lemmas.Steps.{Ready}
 use Rattle.theory_history.specs.Played.{Played, reached, ready}
 use Rattle.theory_history.proofs.Demand as demand
 use Rattle.theory_history.proofs.Demand.{asked-pressed, asked-value, standing-truth, standing-value}
 use Rattle.theory_history.proofs.Directions.{positive, negative, opposites-read}
 use Rattle.theory_history.specs.Lemmas.Truth.{false-true, true-false}
-use Rattle.theory_demand3.specs.Demand3.{Settings, Sheet, sheet_read, elements_from, Lookup, listed, unlisted, lookup, lookup_name, lookup_element, converts, says, silent, last_hat, direction_reads, element_reads, reads_by, rule_reads, Opposite, right-left, up-down}
-use Rattle.theory_demand3.specs.Scripts.{Set}
+use Rattle.theory_demand3.specs.Demand3.{Settings, Sheet, sheet_read, Lookup, listed, unlisted, lookup, lookup_name, lookup_element, converts, says, silent, last_hat, direction_reads, element_reads, reads_by, rule_reads, Opposite, right-left, up-down}
+use Rattle.theory_demand3.proofs.Scripts.{Set}
 use Rattle.theory_demand3.specs.Listed.{Holds, lookup-none, listed-holds, unlisted-bare, name-kept, element-kept}
 use Rattle.theory_demand3.specs.Converting.{each-direction, converts-kept}
 
