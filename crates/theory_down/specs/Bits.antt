@@ -196,10 +196,6 @@ pub lowest-first : (b k : ℕ) → k < lowest_of b → has_bit b k ≡ false
 unfolding lowest_of
 lowest-first b k less = trailing-clear places_per_pad b k less
 
--- it is past the last place exactly where no place is set
-pub lowest-past : (b : ℕ) → lowest_of b ≡ places_per_pad → (k : ℕ) → k < places_per_pad → has_bit b k ≡ false
-lowest-past b past k short = lowest-first b k (omega arith)
-
 pub lowest-none : (b : ℕ) → ((k : ℕ) → k < places_per_pad → has_bit b k ≡ false) → lowest_of b ≡ places_per_pad
 unfolding lowest_of
 lowest-none b none = by (trailing_le places_per_pad b) (λ short. false-true (sym (none _ short) ∙ trailing-set places_per_pad b short))

@@ -6,7 +6,7 @@ use Rattle.rules.specs.declared.Hub.{Hub}
 use Rattle.rules.specs.declared.NextRecord.{NextRecord}
 use Rattle.rules.specs.declared.NumberAnswer.TheVariants.{Number, Absent}
 use Rattle.rules.specs.declared.DownAnswer.TheVariants.{Down}
-use Rattle.rules.specs.Names.{pad_limit, places_per_pad, code_left}
+use Rattle.rules.specs.Names.{places_per_pad, code_left}
 use Rattle.rules.specs.Forms.{record_bytes, kind_connected}
 use Rattle.rules.specs.Setters.{with_down}
 use Rattle.rules.specs.Hub.{kind_at, button_at, pressed_at}
@@ -16,11 +16,9 @@ use Rattle.rules.specs.Pump.{pump_of}
 use Rattle.rules.specs.Queries.{down_of, lowest_pressed}
 use Rattle.theory_calls.specs.Reach.{Reached, new, register}
 use Rattle.theory_calls.specs.Machines.{bare, sheet, desk, move, room, allowed}
-use Rattle.theory_history.specs.Lemmas.Marks.{all_same}
 use Rattle.theory_history.specs.Lemmas.Truth.{true-false}
 use Rattle.theory_down.specs.Counts.{how_many}
-use Rattle.theory_down.specs.Summed.{reads_on, pressed_on, Summed, by-pads, on-pad, sums-alike}
-use Rattle.theory_down.specs.Kept.{reached-summed}
+use Rattle.theory_down.specs.Summed.{reads_on, pressed_on, Summed}
 
 -- ---- a hat at -1: "one pressed record, no pressed element"
 
@@ -85,31 +83,18 @@ past-the-places = (refl, refl)
 
 -- ---- too strong: that a step keeps it on any hub. Where the lists are too short nothing is noted
 
-unfoldable short : Hub
+unfoldable pub short : Hub
 unfolding desk
 short = with_down desk [] [] []
 
-desk-reached : Reached desk
+pub desk-reached : Reached desk
 unfolding desk bare
 desk-reached = register false sheet (new (Ieee.of_bits Ieee.binary32 0x3f400000) (Ieee.of_bits Ieee.binary32 0x3f000000) false true true)
 
-short-summed : Summed short
-unfolding short desk pressed_at
-short-summed =
-    by-pads short
-    (λ p few. sums-alike (sym (all_same pad_limit p 0)) (sym (all_same pad_limit p 0)) (sym (all_same pad_limit p 0)) (λ k inside. refl) (λ k inside. refl) (on-pad desk (reached-summed desk-reached) p few))
-
-unfoldable next : NextRecord
+unfoldable pub next : NextRecord
 unfolding next_record_of move
 next = next_record_of 0 (move (negsuc 0) 100) 0
 
-short-after : (get_or (step_hub short next).held 0 0 ≡ 0) × (pressed_on (step_hub short next) 0 ≡ 1)
+pub short-after : (get_or (step_hub short next).held 0 0 ≡ 0) × (pressed_on (step_hub short next) 0 ≡ 1)
 unfolding short next step_hub how_many pressed_at Ieee.of_bits Ieee.lt Ieee.le Ieee.eq Ieee.ne Ieee.of_int Ieee.sub Ieee.mul Ieee.div Ieee.neg Ieee.add
 short-after = (refl, refl)
-
-not-by-any-step : ((h : Hub) (l : NextRecord) → Summed h → Summed (step_hub h l)) → ⊥
-not-by-any-step all =
-    let e = (all short next short-summed).count 0 (omega arith) in
-    let none = short-after.0 in
-    let one = short-after.1 in
-    omega arith

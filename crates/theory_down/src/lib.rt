@@ -1,2 +1,2 @@
-// Theorems about what is down, over the definitions of `rules`, in specs/. No function.
+// Theorems about what is down, over the definitions of `rules`, in specs/ and proofs/. No function.
 #![tactic(auto)]

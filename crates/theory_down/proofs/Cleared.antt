@@ -27,7 +27,7 @@ use Rattle.theory_registered.specs.Laid.{laid-behind}
 use Rattle.theory_registered.specs.Columns.{places-length, laid-places}
 use Rattle.theory_registered.specs.Converts.{place_same}
 use Rattle.theory_down.specs.Summed.{reads_on, axis_on, OnPad, sums-alike, sums_none}
-use Rattle.theory_down.specs.Stages.{Whole, Placed, Good, same_reads, updated-whole, updated-good, updated-placed}
+use Rattle.theory_down.proofs.Stages.{Whole, Placed, Good, same_reads, updated-whole, updated-good, updated-placed}
 
 -- ---- the same records, sheets and summary
 

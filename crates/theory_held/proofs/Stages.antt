@@ -27,7 +27,8 @@ use Rattle.theory_history.specs.Lemmas.Marks.{cleared-before, cleared-behind, cl
 use Rattle.theory_registered.specs.Columns.{laid-places}
 use Rattle.theory_registered.specs.Converts.{place_same}
 use Rattle.theory_held.specs.Lengths.{taken-long}
-use Rattle.theory_held.specs.Held.{Told, told_none, told_more}
+use Rattle.theory_held.specs.Held.{Told}
+use Rattle.theory_held.proofs.Held.{told_none, told_more}
 use Rattle.theory_held.specs.Applied.{concerns, noted, connects}
 
 -- what a hub holds of a pad and code is what the events tell

@@ -32,7 +32,7 @@ use Rattle.theory_history.specs.Lemmas.Cells.{Long}
 use Rattle.theory_held.specs.Lengths.{reached-long}
 use Rattle.theory_held.specs.Held.{pressed_by, held_since, Told}
 use Rattle.theory_held.specs.Applied.{joins, connects, noted, fed_form, fed, applied_to}
-use Rattle.theory_held.specs.Stages.{Tells, applied, step-tells, register-new, register-old}
+use Rattle.theory_held.proofs.Stages.{Tells, applied, step-tells, register-new, register-old}
 
 -- what holds of a registered pad and a code that has a place
 abbrev Holds : Hub → ℕ → ℕ → List Event → Type 0

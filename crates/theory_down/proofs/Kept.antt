@@ -20,8 +20,8 @@ use Rattle.theory_calls.specs.Reach.{Reached, new, register, rename, step, updat
 use Rattle.theory_history.specs.Lemmas.Marks.{all_same}
 use Rattle.theory_registered.specs.Columns.{accepted, either-taken}
 use Rattle.theory_down.specs.Summed.{Summed, reads_on, axis_on, OnPad, by-pads, on-pad, sums-alike, sums_none}
-use Rattle.theory_down.specs.Stages.{Whole, Placed, Good, updated-good, updated-placed}
-use Rattle.theory_down.specs.Cleared.{Same, same_good, same-placed, step-good, step-placed, registered-good, registered-placed}
+use Rattle.theory_down.proofs.Stages.{Whole, Placed, Good, updated-good, updated-placed}
+use Rattle.theory_down.proofs.Cleared.{Same, same_good, same-placed, step-good, step-placed, registered-good, registered-placed}
 
 -- ---- a step keeps it, on any hub whose arrays have their lengths; so does a pump, wherever it stops
 

@@ -1,0 +1,3 @@
+pub mod Held
+mod Stages
+pub mod Since
