@@ -22,7 +22,7 @@ use Rattle.rules.specs.Queries.{pad_refusal, pressed_by_code, number_by, down_of
 use Rattle.pad.specs.Lookup.{place-stands}
 use Rattle.theory_calls.specs.Reach.{Reached}
 use Rattle.theory_history.specs.Lemmas.Truth.{false-true}
-use Rattle.theory_registered.specs.Pads.{four-pads, never-falls}
+use Rattle.theory_registered.proofs.Pads.{four-pads, never-falls}
 use Rattle.theory_down.specs.Bits.{lowest_set, lowest-first}
 use Rattle.theory_down.specs.Counts.{Some, some-counts, counted-some, count_none}
 use Rattle.theory_down.specs.Summed.{reads_on, axis_on, pressed_on, pressed_axes_on, Summed}
