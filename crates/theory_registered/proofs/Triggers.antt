@@ -12,7 +12,7 @@ use Rattle.rules.specs.Places.{axis_element}
 use Rattle.rules.specs.Hub.{place_in, kind_at, element_at}
 use Rattle.theory_calls.specs.Reach.{Reached}
 use Rattle.theory_arithmetic.specs.Proper.{Proper}
-use Rattle.theory_arithmetic.specs.Trigger as Limits
+use Rattle.theory_arithmetic.proofs.Trigger as Limits
 use Rattle.theory_registered.specs.Axes.{Axis}
 use Rattle.theory_registered.proofs.Axes.{axis-kept}
 
