@@ -1,6 +1,7 @@
 -- A pump in parts is the pump: a call that is allowed a + b steps comes to what two calls come to, one that is allowed a, and one that goes on where that ended
 -- and is allowed b. So each moment inside a call is the end of a call that is allowed less, and what is proved of every call binds what happens inside one. By a
--- shift: where a pump stands is moved by what was written and counted before, and the verdict and the step respect the move.
+-- shift: where a pump stands is moved by what was written and counted before, and the verdict and the step respect the move. The theorem is `pump-parts` of
+-- `proofs/Parts.antt`; here is what it says, and its laws.
 use Prim.Native.Nat.{ℕ, zero, suc, ◌+◌, ◌-◌, ◌*◌, ◌<◌, ◌≤◌}
 use Rattle.std.specs.Prelude.{Bool, cond, ◌||◌, List, [], ◌∷◌, ◌++◌, ◌≡◌, eqb, ltb, take, drop, replicate}
 use Rattle.std.proofs.Math.Bool.{true, false}

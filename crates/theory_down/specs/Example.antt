@@ -1,4 +1,5 @@
--- W-213's sentences on 01's padlog example, computed by the checker; and statements that are too strong, refuted.
+-- W-213's sentences on 01's padlog example, computed by the checker; and statements that are too strong, refuted (one of
+-- them, that a step keeps the summary on any hub, in `proofs/Example.antt`).
 use Rattle.std.specs.Prelude.{ℕ, ◌+◌, ◌*◌, ◌^◌, ◌≡◌, refl, true, false, not, ◌&&◌, List, [], ◌∷◌, ◌++◌, eqb, pos, negsuc, get_or}
 use Rattle.std.proofs.Common.{sym, ◌∙◌, arith}
 use Rattle.std.specs.Float.Ieee as Ieee

@@ -1,6 +1,7 @@
 -- "that two answers meeting a promise are equal is proved": here for each function behind the public calls whose contract is not an equation alone, but
 -- a record or a pair that holds one beside what its callers need: a bound to index by, or that a button is due. By that equation, a line for each
 -- function by name. For every contract that is one equation it is `one-equation` of `theory_calls/specs/Unique.antt`. Numbers are the contracts' own.
+-- The functions of `lines` have theirs in `proofs/Functions.antt`.
 use Rattle.std.specs.Prelude.{ℕ, ◌+◌, ◌%◌, ◌^◌, ◌<◌, ◌≤◌, Bool, cond, List, ◌≡◌, leb, length}
 use Rattle.rules.specs.declared.Event.{Event}
 use Rattle.rules.specs.declared.View.{View}

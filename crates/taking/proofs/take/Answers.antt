@@ -1,5 +1,5 @@
 -- `taking::take` meets its contract: the front where something waits, a refusal, or what the record gives, each by the lemma of `Taking` from what the calls ensure.
-use Rattle.std.proofs.Common.{◌≤◌, List, ℕ, Bool, arith}
+use Rattle.std.proofs.Common.{◌≤◌, List, ℕ, Bool, arith, rules}
 use Rattle.std.specs.Prelude.{Float}
 use Rattle.rules.specs.declared.Hub.{Hub}
 use Rattle.rules.specs.Calls.{fresh_hub}
@@ -14,7 +14,7 @@ returns-then-waiting-gt0 c =
     let h = taking_hub a.codes.now a.kinds.now a.names.now a.renames.now a.renamed.now a.hasbutton.now (elements_of a.values.now a.marks.now)
     (buttons_of a.values.now a.times.now a.marks.now) (slots_of a.values.now a.times.now a.queuebytes.now a.queuecodes.now) a.pads a.pressed a.released
     a.reversed a.head a.waiting in
-    takes_front h a.batch.now a.at c.if-waiting-gt0.true c.front-front.ensures.is c.slot_at-slot.ensures c.event_of-e.ensures c.code_of-code.ensures
+    takes_front h a.batch.now a.at c.if-waiting-gt0.true (search rules) c.slot_at-slot.ensures c.event_of-e.ensures c.code_of-code.ensures
     c.place_of.ensures c.head_after.ensures c.fewer.ensures
 
 -- a record that is refused
