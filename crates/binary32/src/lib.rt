@@ -28,33 +28,31 @@ pub fn of_bits(bits: u32) -> f32
     ensures { result ≡ Ieee.of_bits binary32 bits }
 {
     if INFINITY < bits % MINUS {
-        return 0.0 / 0.0;
+        f32::NAN
+    } else {
+        f32::from_bits(bits)
     }
-    f32::from_bits(bits)
 }
 
 // the bits of a value: 0x7fc00000 for a NaN, whose own are not known
 pub fn bits_of(x: f32) -> u32
     ensures { result ≡ Ieee.to_bits binary32 x }
 {
-    if x != x {
-        return NAN;
-    }
-    f32::to_bits(x)
+    if x.is_nan() { NAN } else { x.to_bits() }
 }
 
-// gilrs's `utils::clamp`
+// gilrs's `utils::clamp`: `f32::clamp` asks that the limits are in order, and this contract asks nothing.
 #[tactic(auto, unfolding(numbers::specs::Clamp::clamp_of))]
 pub fn clamp(x: f32, lo: f32, hi: f32) -> f32
     ensures { result ≡ clamp_of x lo hi }
 {
     if x < lo {
-        return lo;
+        lo
+    } else if hi < x {
+        hi
+    } else {
+        x
     }
-    if hi < x {
-        return hi;
-    }
-    x
 }
 
 // Newton's step towards the root of w
@@ -65,7 +63,7 @@ fn closer(w: u64, s: u64) -> u64
     (s + w / s) / 2
 }
 
-// the whole part of the root of a number below 2^48, by Newton's steps from above
+// the whole part of the root of a number below 2^48, by Newton's steps from above: some five, where `u64::isqrt` halves an interval 32 times
 fn floor_root(w: u64) -> u64
     requires { (0 < w) × (w < 2 ^ 48) }
     ensures { Floor w result }
@@ -85,10 +83,7 @@ fn near_root(w: u64) -> u64
     ensures { result ≡ near w }
 {
     let r = floor_root(w);
-    if r < w - r * r {
-        return r + 1;
-    }
-    r
+    if r < w - r * r { r + 1 } else { r }
 }
 
 // A number above 0, counted in units of 2^-149 (the smallest binary32): 2^24 times its units is m * 2^z, and m has 24 binary digits.
@@ -126,9 +121,10 @@ fn even(m: u64, z: u32) -> u64
     ensures { result ≡ m * 2 ^ (23 + z % 2) }
 {
     if z % 2 == 0 {
-        return m * LEADING_DIGIT;
+        m * LEADING_DIGIT
+    } else {
+        m * SIGNIFICANDS
     }
-    m * SIGNIFICANDS
 }
 
 // the root of a finite number above 0, from its bits
@@ -149,15 +145,15 @@ fn positive(bits: u32) -> f32
 pub fn sqrt(x: f32) -> f32
     ensures { result ≡ sqrt_of x }
 {
-    if x != x {
+    if x.is_nan() {
         return x;
     }
-    let bits = f32::to_bits(x);
+    let bits = x.to_bits();
     if bits % MINUS == 0 {
         return x;
     }
     if MINUS <= bits {
-        return 0.0 / 0.0;
+        return f32::NAN;
     }
     if INFINITY <= bits {
         return x;

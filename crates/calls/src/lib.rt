@@ -7,11 +7,11 @@ ghost use Rattle.std.specs.Prelude.{◌≡◌, Bool, List, ℕ};
 ghost use Rattle.rules.specs.Calls.{update_of, insert_of};
 ghost use Rattle.pad.specs.Found.{Placed};
 ghost use Rattle.hub.specs.Lent.{listed, columns, hub_of, answered};
-ghost use Rattle.calls.specs.Judged.{update_form, insert_form};
+ghost use Rattle.hub.specs.Holding.{columns_with, SameState};
 
-use columns::{Marks, QueueBytes, QueueCodes, Times, Values};
-use hub::{AnsweredHead, Head};
-use rules::{Answer, EventForm, EventRead, MALFORMED};
+use columns::{QueueBytes, QueueCodes, Times, Values};
+use hub::{AnsweredHead, Head, State};
+use rules::{MALFORMED, Refusal};
 
 // ---- update: 8, 6, 9, 11, 12
 
@@ -26,120 +26,103 @@ fn event_place(codes: &[u32; 208], p: u8, code: u32, formcode: u32, place: usize
     pad::place_of(codes, p, code)
 }
 
-// A form that is well made: refused, or done. The place of the form's code is the event's too, but for kinds 6 to 8, which carry no code.
+// Settles an event in the state, or tells the first refusal. The place of the form's code is the event's too, but for kinds 6 to 8, which carry no code.
 #[tactic(auto, unfolding(rules::specs::Events::form_event))]
-fn update_form<'s>(
-    head: Head,
-    codes: &'s [u32; 208],
-    kinds: &'s [u8; 208],
-    hasbutton: &mut [bool; 208],
-    hasaxis: &mut [bool; 208],
-    values: &mut Values,
-    times: &mut Times,
-    marks: &mut Marks,
-    f: EventForm,
-) -> AnsweredHead
-    ensures { (names renames queuebytes queuecodes : List ℕ) →
-        answered result.head (listed codes.now kinds.now names renames)
-        (columns hasbutton.new hasaxis.new values.new times.new marks.new queuebytes queuecodes) result.answer
-        ≡ update_form (hub_of head (listed codes.now kinds.now names renames)
-        (columns hasbutton.old hasaxis.old values.old times.old marks.old queuebytes queuecodes)) f }
+fn settle_event(
+    head: &mut Head,
+    codes: &[u32; 208],
+    kinds: &[u8; 208],
+    state: &mut State<'_>,
+    event: &[u8],
+) -> Result<(), Refusal>
+    ensures answered { (names renames queuebytes queuecodes : List ℕ) →
+        answered head.new (listed codes.now kinds.now names renames)
+        (columns_with state.new queuebytes queuecodes) result
+        ≡ update_of (hub_of head.old (listed codes.now kinds.now names renames)
+        (columns_with state.old queuebytes queuecodes)) event.now }
+    ensures same { SameState state.old state.new }
 {
-    let mut h = head;
-    let place = pad::place_of(codes, f.pad, f.code);
-    let refusal = refusals::form_refusal(f, h.pads, place);
-    if refusal != 0 {
-        return AnsweredHead {
-            head: h,
-            answer: Answer::Refused(refusal),
-        };
-    }
-    let e = events::form_event(f);
-    let k = event_place(codes, e.pad, events::code_of(e), f.code, place);
-    let mut down = h.down;
-    let mut held = h.held;
-    let mut heldaxes = h.heldaxes;
-    let change = cells::settle(
-        hasbutton, hasaxis, values, times, marks, true, e, h.counter, k,
+    let Some(form) = wire::read_event(event) else {
+        return Err(Refusal { number: MALFORMED });
+    };
+    let place = pad::place_of(codes, form.pad, form.code);
+    refusals::form_refusal(form, head.pads, place)?;
+    let e = events::form_event(form);
+    let k = event_place(codes, e.pad, events::code_of(e), form.code, place);
+    let change = cells::settle(state, true, e, head.counter, k);
+    down::follow(
+        kinds,
+        &mut head.down,
+        &mut head.held,
+        &mut head.heldaxes,
+        k,
+        change,
     );
-    down::follow(kinds, &mut down, &mut held, &mut heldaxes, k, change);
-    h.down = down;
-    h.held = held;
-    h.heldaxes = heldaxes;
-    AnsweredHead {
-        head: h,
-        answer: Answer::Done,
-    }
+    Ok(())
 }
 
 // Gives an event to the state.
-#[tactic(auto, unfolding(rules::specs::Calls::update_of, crate::specs::Judged::update_form))]
 pub fn update<'s>(
     head: Head,
     codes: &'s [u32; 208],
     kinds: &'s [u8; 208],
-    hasbutton: &mut [bool; 208],
-    hasaxis: &mut [bool; 208],
-    values: &mut Values,
-    times: &mut Times,
-    marks: &mut Marks,
+    state: &mut State<'_>,
     event: &[u8],
 ) -> AnsweredHead
-    ensures { (names renames queuebytes queuecodes : List ℕ) →
+    ensures answered { (names renames queuebytes queuecodes : List ℕ) →
         answered result.head (listed codes.now kinds.now names renames)
-        (columns hasbutton.new hasaxis.new values.new times.new marks.new queuebytes queuecodes) result.answer
+        (columns_with state.new queuebytes queuecodes) result.answer
         ≡ update_of (hub_of head (listed codes.now kinds.now names renames)
-        (columns hasbutton.old hasaxis.old values.old times.old marks.old queuebytes queuecodes))
+        (columns_with state.old queuebytes queuecodes))
         event.now }
+    ensures same { SameState state.old state.new }
 {
-    let read = wire::read_event(event);
-    match read {
-        EventRead::Form(f) => update_form(
-            head, codes, kinds, hasbutton, hasaxis, values, times, marks, f,
-        ),
-        EventRead::Malformed => AnsweredHead {
-            head: head,
-            answer: Answer::Refused(MALFORMED),
-        },
+    let mut settled = head;
+    let answer = settle_event(&mut settled, codes, kinds, state, event);
+    AnsweredHead {
+        head: settled,
+        answer,
     }
 }
 
 // ---- insert_event: the same, then 13
 
-fn insert_form(
-    head: Head,
+// Puts an event behind those that wait, or tells the first refusal.
+fn queue_event(
+    head: &mut Head,
     codes: &[u32; 208],
     values: &mut Values,
     times: &mut Times,
     queuebytes: &mut QueueBytes,
     queuecodes: &mut QueueCodes,
-    f: EventForm,
-) -> AnsweredHead
+    event: &[u8],
+) -> Result<(), Refusal>
     ensures { (kinds names renames : List ℕ) (hasbutton hasaxis marks : List Bool) →
-        answered result.head (listed codes.now kinds names renames)
-        (columns hasbutton hasaxis values.new times.new marks queuebytes.new queuecodes.new) result.answer
-        ≡ insert_form (hub_of head (listed codes.now kinds names renames)
-        (columns hasbutton hasaxis values.old times.old marks queuebytes.old queuecodes.old)) f }
+        answered head.new (listed codes.now kinds names renames)
+        (columns hasbutton hasaxis values.new times.new marks queuebytes.new queuecodes.new) result
+        ≡ insert_of (hub_of head.old (listed codes.now kinds names renames)
+        (columns hasbutton hasaxis values.old times.old marks queuebytes.old queuecodes.old))
+        event.now }
 {
-    let mut h = head;
-    let place = pad::place_of(codes, f.pad, f.code);
-    let refusal = refusals::insert_refusal(f, h.pads, place, h.waiting);
-    if refusal != 0 {
-        return AnsweredHead {
-            head: h,
-            answer: Answer::Refused(refusal),
-        };
-    }
-    let e = events::form_event(f);
-    h.waiting = queueing::push(values, times, queuebytes, queuecodes, h.head, h.waiting, e);
-    AnsweredHead {
-        head: h,
-        answer: Answer::Done,
-    }
+    let Some(form) = wire::read_event(event) else {
+        return Err(Refusal { number: MALFORMED });
+    };
+    let place = pad::place_of(codes, form.pad, form.code);
+    refusals::insert_refusal(form, head.pads, place, head.waiting)?;
+    let e = events::form_event(form);
+    head.waiting = queueing::push(
+        values,
+        times,
+        queuebytes,
+        queuecodes,
+        head.head,
+        head.waiting,
+        e,
+    );
+    Ok(())
 }
 
 // Lets an event wait.
-#[tactic(auto, unfolding(rules::specs::Calls::insert_of, crate::specs::Judged::insert_form))]
 pub fn insert_event(
     head: Head,
     codes: &[u32; 208],
@@ -156,12 +139,18 @@ pub fn insert_event(
         (columns hasbutton hasaxis values.old times.old marks queuebytes.old queuecodes.old))
         event.now }
 {
-    let read = wire::read_event(event);
-    match read {
-        EventRead::Form(f) => insert_form(head, codes, values, times, queuebytes, queuecodes, f),
-        EventRead::Malformed => AnsweredHead {
-            head: head,
-            answer: Answer::Refused(MALFORMED),
-        },
+    let mut queued = head;
+    let answer = queue_event(
+        &mut queued,
+        codes,
+        values,
+        times,
+        queuebytes,
+        queuecodes,
+        event,
+    );
+    AnsweredHead {
+        head: queued,
+        answer,
     }
 }

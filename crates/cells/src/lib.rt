@@ -7,11 +7,13 @@ ghost use Rattle.rules.specs.Names.{nowhere};
 ghost use Rattle.rules.specs.Hub.{past_element, past_button, past_axis};
 ghost use Rattle.gather.specs.EventPlaces.{view_by};
 ghost use Rattle.columns.specs.Columns.{elements_of, buttons_of, axes_of};
+ghost use Rattle.hub.specs.Holding.{SameState};
 ghost use Rattle.cells.specs.Seen.{stored_at, held_at};
 ghost use Rattle.cells.specs.Settled.{Settled};
 
 use columns::{Marks, Times, Values};
 use gather::EventPlaces;
+use hub::State;
 use rules::{Event, View};
 
 // What a stick sees, with what stands at the places: the own element and records, the partner's records.
@@ -79,38 +81,35 @@ pub fn held_in<'a>(
 
 // The state after a kept event whose code stands at k: with updates on, the record that the event writes, and the mark that it stands; and how the place's button
 // record reads with it. What follows from that is told by `down`, so that this stays small enough to be made part of the pump's loop.
-pub fn settle(
-    hasbutton: &mut [bool; 208],
-    hasaxis: &mut [bool; 208],
-    values: &mut Values,
-    times: &mut Times,
-    marks: &mut Marks,
-    on: bool,
-    e: Event,
-    counter: u64,
-    k: usize,
-) -> u8
+pub fn settle(state: &mut State<'_>, on: bool, e: Event, counter: u64, k: usize) -> u8
     requires { k ≤ nowhere }
-    ensures { Settled hasbutton.old hasaxis.old values.old times.old marks.old k on e counter result
-        hasbutton.new hasaxis.new values.new times.new marks.new }
+    ensures settled { let s = state.old in let t = state.new in
+        Settled s.hasbutton.now s.hasaxis.now s.values.now s.times.now s.marks.now k on e counter result
+        t.hasbutton.now t.hasaxis.now t.values.now t.times.now t.marks.now }
+    ensures same { SameState state.old state.new }
 {
     if !on {
         return down::STILL;
     }
     if state::writes_button(e) {
-        let known = pad::bool_at(hasbutton, k);
-        let b = columns::button_at(values, times, marks, k);
+        let known = pad::bool_at(state.hasbutton, k);
+        let b = columns::button_at(state.values, state.times, state.marks, k);
         let was = state::read_pressed(known, b);
         let after = state::button_after(e, known, b, counter);
-        columns::put_button(values, times, marks, k, after);
-        pad::mark(hasbutton, k, true);
+        columns::put_button(state.values, state.times, state.marks, k, after);
+        pad::mark(state.hasbutton, k, true);
         return down::change(was, after.pressed);
     }
     if !state::writes_axis(e) {
         return down::STILL;
     }
-    let a = columns::axis_at(values, times, k);
-    columns::put_axis(values, times, k, state::axis_after(e, a, counter));
-    pad::mark(hasaxis, k, true);
+    let a = columns::axis_at(state.values, state.times, k);
+    columns::put_axis(
+        state.values,
+        state.times,
+        k,
+        state::axis_after(e, a, counter),
+    );
+    pad::mark(state.hasaxis, k, true);
     down::STILL
 }

@@ -1,39 +1,25 @@
-// `&&`, `||`, a choice and a minimum as functions. Where a body would branch, its proof would have two cases from there on; a call leaves one.
+// And, or and a choice as functions. Where a body would branch, its proof would have two cases from there on; a call leaves one.
 #![tactic(auto)]
 
-ghost use Rattle.std.specs.Prelude.{◌≡◌, cond, ◌&&◌, ◌||◌, min, ◌<◌};
+ghost use Rattle.std.specs.Prelude.{◌≡◌, cond, ◌&&◌, ◌||◌};
 
-// And, both sides worked out: a `&&` in a body costs its proof a branch.
+// And, both sides worked out: a `&&` in a body costs its proof a branch. It stands beside `&`, since the must-fail edit or_for_and is of it.
 pub fn both(a: bool, b: bool) -> bool
     ensures { result ≡ (a && b) }
 {
-    if a { b } else { false }
+    a & b
 }
 
-// Or, both sides worked out.
+// Or, both sides worked out, as `both` is.
 pub fn either(a: bool, b: bool) -> bool
     ensures { result ≡ (a || b) }
 {
-    if a { true } else { b }
+    a | b
 }
 
-// The first number where the test holds, else the other.
-pub fn chosen(test: bool, number: u8, other: u8) -> u8
-    ensures { result ≡ cond test number other }
+// The first value where the test holds, else the other.
+pub fn chosen<T: Copy>(test: bool, this: T, other: T) -> T
+    ensures { result ≡ cond test this other }
 {
-    if test { number } else { other }
-}
-
-// The lesser of two lengths.
-pub fn least(a: usize, b: usize) -> usize
-    ensures { result ≡ min a b }
-{
-    if a < b { a } else { b }
-}
-
-// A byte as an index, with its bound, which the cast alone does not tell a caller's proof.
-pub fn wide(x: u8) -> usize
-    ensures { (result ≡ x) × (result < 256) }
-{
-    x as usize
+    if test { this } else { other }
 }

@@ -3,7 +3,7 @@
 // numbers and whatever the arrays hold that it is not lent.
 #![tactic(auto)]
 
-ghost use Rattle.std.specs.Prelude.{◌≡◌, Bool, false, List, ℕ, ◌+◌, ◌*◌, ◌≤◌, ◌<◌, get_or};
+ghost use Rattle.std.specs.Prelude.{◌≡◌, Bool, false, List, ℕ, ◌+◌, ◌*◌, ◌≤◌, ◌<◌, get_or, unwrap_or, IfSome};
 ghost use Rattle.rules.specs.Names.{nowhere};
 ghost use Rattle.rules.specs.Hub.{past_button};
 ghost use Rattle.rules.specs.Calls.{inc_of, reset_of, blank_button};
@@ -12,9 +12,8 @@ ghost use Rattle.columns.specs.Columns.{buttons_of};
 ghost use Rattle.hub.specs.Lent.{Listed, Columns, listed, columns, hub_of};
 ghost use Rattle.clock.specs.Runs.{record_of, Gathered};
 
-use columns::{Marks, Times, Values};
-use hub::Head;
-use rules::{ButtonData, NOWHERE, PLACES_PER_PAD, RepeatAnswer};
+use hub::{Buttons, Head};
+use rules::{ButtonData, Event, PLACES_PER_PAD, Refusal};
 
 const PADS: usize = 4;
 
@@ -63,96 +62,79 @@ fn blank() -> ButtonData
 }
 
 // A place's record for its pad's run: blank where it has none, and a blank record is never due.
-fn record_at(
-    hasbutton: &[bool; 208],
-    values: &Values,
-    times: &Times,
-    marks: &Marks,
-    place: usize,
-) -> ButtonData
+fn record_at(buttons: &Buttons<'_>, place: usize) -> ButtonData
     requires { place ≤ nowhere }
-    ensures { result ≡ record_of (get_or hasbutton.now place false)
-        (get_or (buttons_of values.now times.now marks.now) place past_button) }
+    ensures { let b = buttons.now in
+        result ≡ record_of (get_or b.hasbutton.now place false)
+        (get_or (buttons_of b.values.now b.times.now b.marks.now) place past_button) }
 {
-    if pad::bool_at(hasbutton, place) {
-        return columns::button_at(values, times, marks, place);
+    if pad::bool_at(buttons.hasbutton, place) {
+        columns::button_at(buttons.values, buttons.times, buttons.marks, place)
+    } else {
+        blank()
     }
-    blank()
 }
 
 // A pad's records, in place order: its places begin at `start`.
-fn gather_run(
-    hasbutton: &[bool; 208],
-    values: &Values,
-    times: &Times,
-    marks: &Marks,
-    start: usize,
-) -> [ButtonData; 52]
+fn gather_run(buttons: &Buttons<'_>, start: usize) -> [ButtonData; 52]
     requires { start + 52 ≤ nowhere }
-    ensures { Gathered hasbutton.now (buttons_of values.now times.now marks.now) start result }
+    ensures { let b = buttons.now in
+        Gathered b.hasbutton.now (buttons_of b.values.now b.times.now b.marks.now) start result }
 {
     let mut run = [blank(); 52];
-    let mut index: usize = 0;
-    while index < PLACES_PER_PAD {
-        run[index] = record_at(hasbutton, values, times, marks, start + index);
-        index = index + 1;
+    for index in 0..PLACES_PER_PAD {
+        run[index] = record_at(buttons, start + index);
     }
     run
 }
 
-// The first due place of pad p's, or 208: of a pad that is not connected none is.
+// The first due place of pad p's: of a pad that is not connected none is.
 fn first_on(
     connected: &[bool; 4],
-    hasbutton: &[bool; 208],
-    values: &Values,
-    times: &Times,
-    marks: &Marks,
+    buttons: &Buttons<'_>,
     p: usize,
     after: u64,
     every: u64,
     clock: u64,
-) -> usize
+) -> Option<usize>
     requires { p < 4 }
-    ensures { result ≡ first_due connected.now hasbutton.now
-        (buttons_of values.now times.now marks.now) after every clock 52 (52 * p) }
+    ensures { let b = buttons.now in
+        (unwrap_or result nowhere ≡ first_due connected.now b.hasbutton.now
+        (buttons_of b.values.now b.times.now b.marks.now) after every clock 52 (52 * p))
+        × IfSome result (λ place. place < nowhere) }
 {
     if !connected[p] {
-        return NOWHERE;
+        return None;
     }
     let start = PLACES_PER_PAD * p;
-    let run = gather_run(hasbutton, values, times, marks, start);
+    let run = gather_run(buttons, start);
     let index = repeat::first_of_pad(run, after, every, clock);
     if PLACES_PER_PAD <= index {
-        return NOWHERE;
+        return None;
     }
-    start + index
+    Some(start + index)
 }
 
-// "Connected pads by number, codes rising; the first due button": its place, or 208.
+// "Connected pads by number, codes rising; the first due button": its place, where one is due.
 fn first_place(
     connected: &[bool; 4],
-    hasbutton: &[bool; 208],
-    values: &Values,
-    times: &Times,
-    marks: &Marks,
+    buttons: &Buttons<'_>,
     after: u64,
     every: u64,
     clock: u64,
-) -> usize
-    ensures { result ≡ first_due connected.now hasbutton.now
-        (buttons_of values.now times.now marks.now) after every clock nowhere 0 }
+) -> Option<usize>
+    ensures { let b = buttons.now in
+        (unwrap_or result nowhere ≡ first_due connected.now b.hasbutton.now
+        (buttons_of b.values.now b.times.now b.marks.now) after every clock nowhere 0)
+        × IfSome result (λ place. place < nowhere) }
 {
-    let mut p: usize = 0;
-    while p < PADS {
-        let place = first_on(
-            connected, hasbutton, values, times, marks, p, after, every, clock,
-        );
-        if place < NOWHERE {
-            return place;
+    for p in 0..PADS {
+        let due = first_on(connected, buttons, p, after, every, clock);
+        if let Some(place) = due {
+            return Some(place);
         }
-        p = p + 1;
     }
-    NOWHERE
+    None
 }
 
 // The first due button of the connected pads, with the clock as input: gilrs's `Repeat`.
@@ -162,41 +144,26 @@ pub fn repeat<'s>(
     codes: &[u32; 208],
     names: &'s [u8; 208],
     renames: &'s [u8; 208],
-    hasbutton: &[bool; 208],
-    values: &Values,
-    times: &Times,
-    marks: &Marks,
+    buttons: &Buttons<'_>,
     after: u64,
     every: u64,
     clock: u64,
-) -> RepeatAnswer
-    ensures { (kinds queuebytes queuecodes : List ℕ) (hasaxis : List Bool) →
+) -> Result<Option<Event>, Refusal>
+    ensures { (kinds queuebytes queuecodes : List ℕ) (hasaxis : List Bool) → let b = buttons.now in
         result ≡ repeat_of (hub_of head (listed codes.now kinds names.now renames.now)
-        (columns hasbutton.now hasaxis values.now times.now marks.now queuebytes queuecodes))
+        (columns b.hasbutton.now hasaxis b.values.now b.times.now b.marks.now queuebytes queuecodes))
         after every clock }
 {
-    let refusal = refusals::repeat_refusal(after, every, clock);
-    if refusal != 0 {
-        return RepeatAnswer::Refused(refusal);
-    }
-    let place = first_place(
-        &head.connected,
-        hasbutton,
-        values,
-        times,
-        marks,
-        after,
-        every,
-        clock,
-    );
-    if NOWHERE <= place {
-        return RepeatAnswer::Quiet;
-    }
+    refusals::repeat_refusal(after, every, clock)?;
+    let due = first_place(&head.connected, buttons, after, every, clock);
+    let Some(place) = due else {
+        return Ok(None);
+    };
     let p = (place / PLACES_PER_PAD) as u8;
     let name = gather::present_name(names, renames, &head.renamed, p, place);
     let code = pad::code_at(codes, place);
-    let known = pad::bool_at(hasbutton, place);
-    let b = columns::button_at(values, times, marks, place);
+    let known = pad::bool_at(buttons.hasbutton, place);
+    let b = columns::button_at(buttons.values, buttons.times, buttons.marks, place);
     let e = repeat::repeated(p, name, code, b, known, after, every, clock);
-    RepeatAnswer::Due(e)
+    Ok(Some(e))
 }

@@ -2,10 +2,10 @@
 // place. Where a column starts in its array is said here and in specs/Columns.antt, and nowhere above.
 #![tactic(auto)]
 
-ghost use Rattle.std.specs.Prelude.{◌≡◌, ◌<◌, ◌≤◌, get_or, length};
+ghost use Rattle.std.specs.Prelude.{◌≡◌, ◌<◌, ◌≤◌, get_or};
 ghost use Rattle.rules.specs.Names.{nowhere, queue_room};
 ghost use Rattle.rules.specs.Hub.{past_element, past_button, past_axis, past_slot};
-ghost use Rattle.columns.specs.Columns.{values_long, times_long, marks_long, bytes_long, elements_of, buttons_of, axes_of, slots_of};
+ghost use Rattle.columns.specs.Columns.{elements_of, buttons_of, axes_of, slots_of};
 ghost use Rattle.columns.specs.Stores.{ButtonPut, AxisPut, ElementPut, SlotPut};
 ghost use Rattle.columns.specs.Blank.{Blank};
 
@@ -63,71 +63,10 @@ const QUEUE_NAMES: usize = 128;
 
 pub type QueueCodes = [u32; 64];
 
-// ---- how long an array is: the length of a lent array is known once it is lent on as a slice. These calls leave no code.
-
-fn values_in(s: &[f32]) -> usize
-    ensures { result ≡ length s.now }
-{
-    s.len()
-}
-
-fn times_in(s: &[u64]) -> usize
-    ensures { result ≡ length s.now }
-{
-    s.len()
-}
-
-fn marks_in(s: &[bool]) -> usize
-    ensures { result ≡ length s.now }
-{
-    s.len()
-}
-
-fn bytes_in(s: &[u8]) -> usize
-    ensures { result ≡ length s.now }
-{
-    s.len()
-}
-
-fn codes_in(s: &[u32]) -> usize
-    ensures { result ≡ length s.now }
-{
-    s.len()
-}
-
-fn whole_values(s: &Values)
-    ensures { length s.now ≡ values_long }
-{
-    values_in(s);
-}
-
-fn whole_times(s: &Times)
-    ensures { length s.now ≡ times_long }
-{
-    times_in(s);
-}
-
-fn whole_marks(s: &Marks)
-    ensures { length s.now ≡ marks_long }
-{
-    marks_in(s);
-}
-
-fn whole_bytes(s: &QueueBytes)
-    ensures { length s.now ≡ bytes_long }
-{
-    bytes_in(s);
-}
-
-fn whole_codes(s: &QueueCodes)
-    ensures { length s.now ≡ queue_room }
-{
-    codes_in(s);
-}
-
 // ---- a record read
 
 // What an axis element keeps at a place.
+#[tactic(auto, using(crate::proofs::Records::records))]
 pub fn element_at(values: &Values, marks: &Marks, k: usize) -> Element
     requires { k ≤ nowhere }
     ensures { result ≡ get_or (elements_of values.now marks.now) k past_element }
@@ -141,6 +80,7 @@ pub fn element_at(values: &Values, marks: &Marks, k: usize) -> Element
 }
 
 // The button record of a place.
+#[tactic(auto, using(crate::proofs::Records::records))]
 pub fn button_at(values: &Values, times: &Times, marks: &Marks, k: usize) -> ButtonData
     requires { k ≤ nowhere }
     ensures { result ≡ get_or (buttons_of values.now times.now marks.now) k past_button }
@@ -156,6 +96,7 @@ pub fn button_at(values: &Values, times: &Times, marks: &Marks, k: usize) -> But
 }
 
 // The axis record of a place.
+#[tactic(auto, using(crate::proofs::Records::records))]
 pub fn axis_at(values: &Values, times: &Times, k: usize) -> AxisData
     requires { k ≤ nowhere }
     ensures { result ≡ get_or (axes_of values.now times.now) k past_axis }
@@ -168,6 +109,7 @@ pub fn axis_at(values: &Values, times: &Times, k: usize) -> AxisData
 }
 
 // The event that waits in a slot of the ring.
+#[tactic(auto, using(crate::proofs::Records::records))]
 pub fn slot_at(
     values: &Values,
     times: &Times,
@@ -201,9 +143,6 @@ pub fn put_button(
     requires { k ≤ nowhere }
     ensures { ButtonPut values.old times.old marks.old k b values.new times.new marks.new }
 {
-    whole_values(values);
-    whole_times(times);
-    whole_marks(marks);
     values[BUTTON_VALUES + k] = b.value;
     times[BUTTON_STAMPS + k] = b.stamp;
     times[BUTTON_COUNTERS + k] = b.counter;
@@ -217,8 +156,6 @@ pub fn put_axis(values: &mut Values, times: &mut Times, k: usize, a: AxisData)
     requires { k ≤ nowhere }
     ensures { AxisPut values.old times.old k a values.new times.new }
 {
-    whole_values(values);
-    whole_times(times);
     values[AXIS_VALUES + k] = a.value;
     times[AXIS_STAMPS + k] = a.stamp;
     times[AXIS_COUNTERS + k] = a.counter;
@@ -229,8 +166,6 @@ pub fn put_element(values: &mut Values, marks: &mut Marks, k: usize, e: Element)
     requires { k ≤ nowhere }
     ensures { ElementPut values.old marks.old k e values.new marks.new }
 {
-    whole_values(values);
-    whole_marks(marks);
     values[LOWS + k] = e.low;
     values[RANGES + k] = e.range;
     marks[ODD + k] = e.odd;
@@ -250,10 +185,6 @@ pub fn put_slot(
     ensures { SlotPut values.old times.old queuebytes.old queuecodes.old k s
         values.new times.new queuebytes.new queuecodes.new }
 {
-    whole_values(values);
-    whole_times(times);
-    whole_bytes(queuebytes);
-    whole_codes(queuecodes);
     queuebytes[QUEUE_KINDS + k] = s.kind;
     queuebytes[QUEUE_PADS + k] = s.pad;
     queuebytes[QUEUE_NAMES + k] = s.name;

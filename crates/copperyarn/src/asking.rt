@@ -7,7 +7,7 @@ ghost use Rattle.crossing.specs.Crossing.{truth_of, value_of, number_of, button_
 
 use columns::{Marks, Times, Values};
 use crossing::{Axis, Button, Down, Number, Truth, Value};
-use hub::Head;
+use hub::{Buttons, Head};
 
 // Whether a button is pressed, by a code: false for one that is not known. Refuses 6.
 #[unsafe(no_mangle)]
@@ -25,9 +25,13 @@ pub extern "C" fn copperyarn_lent_is_pressed_by_code(
         result ≡ truth_of (pressed_by_code (hub_of head (listed codes.now kinds names renames)
         (columns hasbutton.now hasaxis values.now times.now marks.now queuebytes queuecodes)) p code) }
 {
-    crossing::truth_of(queries::is_pressed_by_code(
-        head, codes, hasbutton, values, times, marks, p, code,
-    ))
+    let buttons = Buttons {
+        hasbutton,
+        values,
+        times,
+        marks,
+    };
+    crossing::truth_of(queries::is_pressed_by_code(head, codes, &buttons, p, code))
 }
 
 // The same by a button's name. Refuses 6, 16.
@@ -48,9 +52,13 @@ pub extern "C" fn copperyarn_lent_is_pressed<'s>(
         result ≡ truth_of (pressed_by_name (hub_of head (listed codes.now kinds names.now renames.now)
         (columns hasbutton.now hasaxis values.now times.now marks.now queuebytes queuecodes)) p name) }
 {
-    crossing::truth_of(queries::is_pressed(
-        head, codes, names, renames, hasbutton, values, times, marks, p, name,
-    ))
+    let buttons = Buttons {
+        hasbutton,
+        values,
+        times,
+        marks,
+    };
+    crossing::truth_of(queries::is_pressed(head, codes, names, renames, &buttons, p, name))
 }
 
 // The value of a code: of the axis, else of the button, else 0.0. Refuses 6.
@@ -70,9 +78,13 @@ pub extern "C" fn copperyarn_lent_value_by_code(
         result ≡ value_of (value_by_code (hub_of head (listed codes.now kinds names renames)
         (columns hasbutton.now hasaxis.now values.now times.now marks.now queuebytes queuecodes)) p code) }
 {
-    crossing::value_of(queries::value_by_code(
-        head, codes, hasbutton, hasaxis, values, times, marks, p, code,
-    ))
+    let buttons = Buttons {
+        hasbutton,
+        values,
+        times,
+        marks,
+    };
+    crossing::value_of(queries::value_by_code(head, codes, &buttons, hasaxis, p, code))
 }
 
 // The same by an axis's name. Refuses 6, 16.
@@ -93,9 +105,13 @@ pub extern "C" fn copperyarn_lent_value<'s>(
         result ≡ value_of (value_by_name (hub_of head (listed codes kinds names.now renames.now)
         (columns hasbutton.now hasaxis.now values.now times.now marks.now queuebytes queuecodes)) p name) }
 {
-    crossing::value_of(queries::value(
-        head, names, renames, hasbutton, hasaxis, values, times, marks, p, name,
-    ))
+    let buttons = Buttons {
+        hasbutton,
+        values,
+        times,
+        marks,
+    };
+    crossing::value_of(queries::value(head, names, renames, &buttons, hasaxis, p, name))
 }
 
 // The button record of a code. Refuses 6.
@@ -114,9 +130,13 @@ pub extern "C" fn copperyarn_lent_button_data_by_code(
         result ≡ button_of (button_by_code (hub_of head (listed codes.now kinds names renames)
         (columns hasbutton.now hasaxis values.now times.now marks.now queuebytes queuecodes)) p code) }
 {
-    crossing::button_of(queries::button_data_by_code(
-        head, codes, hasbutton, values, times, marks, p, code,
-    ))
+    let buttons = Buttons {
+        hasbutton,
+        values,
+        times,
+        marks,
+    };
+    crossing::button_of(queries::button_data_by_code(head, codes, &buttons, p, code))
 }
 
 // The button record of a name. Refuses 6, 16.
@@ -136,9 +156,13 @@ pub extern "C" fn copperyarn_lent_button_data<'s>(
         result ≡ button_of (button_by_name (hub_of head (listed codes kinds names.now renames.now)
         (columns hasbutton.now hasaxis values.now times.now marks.now queuebytes queuecodes)) p name) }
 {
-    crossing::button_of(queries::button_data(
-        head, names, renames, hasbutton, values, times, marks, p, name,
-    ))
+    let buttons = Buttons {
+        hasbutton,
+        values,
+        times,
+        marks,
+    };
+    crossing::button_of(queries::button_data(head, names, renames, &buttons, p, name))
 }
 
 // The axis record of a code. Refuses 6.

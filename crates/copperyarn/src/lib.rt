@@ -17,7 +17,7 @@ ghost use Rattle.copperyarn.specs.Exports.{done, done_of, enrolled, enrolled_of,
 
 use columns::{Marks, QueueBytes, QueueCodes, Times, Values};
 use crossing::{Done, Due, Pumped, Registered, TiltedPair};
-use hub::Head;
+use hub::{Buttons, Head, State};
 
 // ---- setting a desk up
 
@@ -49,11 +49,9 @@ pub extern "C" fn copperyarn_lent_new(
         pressed, released, reversed, filters, updates, codes, kinds, names, renames, hasbutton,
         hasaxis, values, times, marks, queuebytes, queuecodes,
     );
-    let head = r.head;
-    let answer = r.answer;
     Done {
-        head,
-        refusal: crossing::refusal_of(answer),
+        head: r.head,
+        refusal: crossing::refusal_of(r.answer),
     }
 }
 
@@ -80,11 +78,9 @@ pub extern "C" fn copperyarn_lent_register(
     let r = desk::register(
         false, head, codes, kinds, names, hasbutton, hasaxis, values, marks, sheet,
     );
-    let head = r.head;
-    let answer = r.answer;
     Registered {
-        head,
-        pad: crossing::pad_of(answer),
+        head: r.head,
+        pad: crossing::pad_of(r.answer),
     }
 }
 
@@ -111,11 +107,9 @@ pub extern "C" fn copperyarn_lent_register_archived(
     let r = desk::register(
         true, head, codes, kinds, names, hasbutton, hasaxis, values, marks, sheet,
     );
-    let head = r.head;
-    let answer = r.answer;
     Registered {
-        head,
-        pad: crossing::pad_of(answer),
+        head: r.head,
+        pad: crossing::pad_of(r.answer),
     }
 }
 
@@ -137,11 +131,9 @@ pub extern "C" fn copperyarn_lent_rename<'s>(
         p list.now) }
 {
     let r = desk::rename(head, codes, kinds, renames, p, list);
-    let head = r.head;
-    let answer = r.answer;
     Done {
-        head,
-        refusal: crossing::refusal_of(answer),
+        head: r.head,
+        refusal: crossing::refusal_of(r.answer),
     }
 }
 
@@ -176,16 +168,25 @@ pub extern "C" fn copperyarn_lent_pump<'s>(
         (columns hasbutton.old hasaxis.old values.old times.old marks.old queuebytes.old queuecodes.old))
         batch.now place out.old allowance) }
 {
-    let r = pump::pump(
-        head, codes, kinds, names, renames, hasbutton, hasaxis, values, times, marks, queuebytes,
-        queuecodes, batch, place, out, allowance,
-    );
-    let head = r.head;
-    let answer = r.answer;
-    let tilt = r.tilt;
+    let listed = hub::Listing {
+        codes,
+        kinds,
+        names,
+        renames,
+    };
+    let mut lent = hub::Store {
+        hasbutton,
+        hasaxis,
+        values,
+        times,
+        marks,
+        queuebytes,
+        queuecodes,
+    };
+    let r = pump::pump(head, &listed, &mut lent, batch, place, out, allowance);
     Pumped {
-        head,
-        report: crossing::report_of(answer, tilt),
+        head: r.head,
+        report: crossing::report_of(r.answer, r.tilt),
     }
 }
 
@@ -217,14 +218,17 @@ pub extern "C" fn copperyarn_lent_update<'s>(
         (columns hasbutton.old hasaxis.old values.old times.old marks.old queuebytes queuecodes))
         event.now) }
 {
-    let r = calls::update(
-        head, codes, kinds, hasbutton, hasaxis, values, times, marks, event,
-    );
-    let head = r.head;
-    let answer = r.answer;
+    let mut state = State {
+        hasbutton,
+        hasaxis,
+        values,
+        times,
+        marks,
+    };
+    let r = calls::update(head, codes, kinds, &mut state, event);
     Done {
-        head,
-        refusal: crossing::refusal_of(answer),
+        head: r.head,
+        refusal: crossing::refusal_of(r.answer),
     }
 }
 
@@ -247,11 +251,9 @@ pub extern "C" fn copperyarn_lent_insert_event(
         event.now) }
 {
     let r = calls::insert_event(head, codes, values, times, queuebytes, queuecodes, event);
-    let head = r.head;
-    let answer = r.answer;
     Done {
-        head,
-        refusal: crossing::refusal_of(answer),
+        head: r.head,
+        refusal: crossing::refusal_of(r.answer),
     }
 }
 
@@ -279,12 +281,14 @@ pub extern "C" fn copperyarn_lent_repeat<'s>(
         (columns hasbutton.now hasaxis values.now times.now marks.now queuebytes queuecodes))
         after every clock) event.old) }
 {
-    crossing::due_of(
-        clock::repeat(
-            head, codes, names, renames, hasbutton, values, times, marks, after, every, clock,
-        ),
-        event,
-    )
+    let buttons = Buttons {
+        hasbutton,
+        values,
+        times,
+        marks,
+    };
+    let due = clock::repeat(head, codes, names, renames, &buttons, after, every, clock);
+    crossing::due_of(due, event)
 }
 
 // ---- the counter

@@ -5,15 +5,11 @@
 
 ghost use Rattle.std.specs.Prelude.{◌≡◌};
 ghost use Rattle.crossing.specs.Crossing.{refusal_of, pad_of, truth_of, value_of, number_of};
-ghost use Rattle.crossing.specs.Crossing.{known_button, no_button, button_of, known_axis, no_axis, axis_of, report_by, report_of, tilted_pair_of, due_of, due_bytes, down_of};
-ghost use Rattle.rules.specs.Answers.{tilt_says};
+ghost use Rattle.crossing.specs.Crossing.{button_of, axis_of, report_of, tilted_pair_of, due_of, due_bytes, down_of};
 
 use hub::Head;
 use numbers::{Tilt, Tilted};
-use rules::{
-    Answer, AxisAnswer, AxisData, ButtonAnswer, ButtonData, DownAnswer, NumberAnswer, PumpAnswer,
-    RegisterAnswer, RepeatAnswer, TruthAnswer, ValueAnswer,
-};
+use rules::{AxisData, ButtonData, Event, PadDown, PumpAnswer, Refusal};
 
 // why a pump that was not refused stopped, in 01's order
 const DRAINED: u8 = 1;
@@ -21,27 +17,19 @@ const DRAINED: u8 = 1;
 const FULL: u8 = 2;
 
 const PAUSED: u8 = 3;
-// which of three the deadzone calculation was, or that no threshold was met
-const UNMET: u8 = 0;
-
-const INSIDE: u8 = 1;
-
-const BETWEEN: u8 = 2;
-
-const FULL_TILT: u8 = 3;
 
 // ---- the answers
 
 // A registered pad's number.
 #[repr(C)]
-#[derive(Clone, Copy)]
+#[derive(Clone, Copy, Default)]
 pub struct Pad {
     pub refusal: u8,
     pub pad: u8,
 }
 
 #[repr(C)]
-#[derive(Clone, Copy)]
+#[derive(Clone, Copy, Default)]
 pub struct Truth {
     pub refusal: u8,
     pub is: bool,
@@ -49,7 +37,7 @@ pub struct Truth {
 
 // `known` is false where there is no such value.
 #[repr(C)]
-#[derive(Clone, Copy)]
+#[derive(Clone, Copy, Default)]
 pub struct Value {
     pub refusal: u8,
     pub known: bool,
@@ -58,7 +46,7 @@ pub struct Value {
 
 // A name's number or a code.
 #[repr(C)]
-#[derive(Clone, Copy)]
+#[derive(Clone, Copy, Default)]
 pub struct Number {
     pub refusal: u8,
     pub known: bool,
@@ -66,7 +54,7 @@ pub struct Number {
 }
 
 #[repr(C)]
-#[derive(Clone, Copy)]
+#[derive(Clone, Copy, Default)]
 pub struct Button {
     pub refusal: u8,
     pub known: bool,
@@ -79,7 +67,7 @@ pub struct Button {
 }
 
 #[repr(C)]
-#[derive(Clone, Copy)]
+#[derive(Clone, Copy, Default)]
 pub struct Axis {
     pub refusal: u8,
     pub known: bool,
@@ -90,7 +78,7 @@ pub struct Axis {
 
 // What is down on a pad: how many of its button records are pressed, and whether an axis element's is.
 #[repr(C)]
-#[derive(Clone, Copy)]
+#[derive(Clone, Copy, Default)]
 pub struct Down {
     pub refusal: u8,
     pub count: u8,
@@ -121,7 +109,7 @@ pub struct TiltedPair {
 
 // Whether a repeat is due; its event's bytes stand in the buffer that was lent.
 #[repr(C)]
-#[derive(Clone, Copy)]
+#[derive(Clone, Copy, Default)]
 pub struct Due {
     pub refusal: u8,
     pub due: bool,
@@ -153,190 +141,134 @@ pub struct Pumped {
 // ---- from the calls' answers
 
 // The refusal's number, 0 where the call was done.
-pub fn refusal_of(answer: Answer) -> u8
+pub fn refusal_of(answer: Result<(), Refusal>) -> u8
     ensures { result ≡ refusal_of answer }
 {
     match answer {
-        Answer::Done => 0,
-        Answer::Refused(number) => number,
+        Ok(()) => 0,
+        Err(refusal) => refusal.number,
     }
 }
 
 // A registered pad.
-pub fn pad_of(answer: RegisterAnswer) -> Pad
+pub fn pad_of(answer: Result<u8, Refusal>) -> Pad
     ensures { result ≡ pad_of answer }
 {
     match answer {
-        RegisterAnswer::Pad(p) => Pad { refusal: 0, pad: p },
-        RegisterAnswer::Refused(number) => Pad {
-            refusal: number,
-            pad: 0,
+        Ok(pad) => Pad { refusal: 0, pad },
+        Err(refusal) => Pad {
+            refusal: refusal.number,
+            ..Pad::default()
         },
     }
 }
 
 // A yes or no.
-pub fn truth_of(answer: TruthAnswer) -> Truth
+pub fn truth_of(answer: Result<bool, Refusal>) -> Truth
     ensures { result ≡ truth_of answer }
 {
     match answer {
-        TruthAnswer::Is(b) => Truth { refusal: 0, is: b },
-        TruthAnswer::Refused(number) => Truth {
-            refusal: number,
-            is: false,
+        Ok(is) => Truth { refusal: 0, is },
+        Err(refusal) => Truth {
+            refusal: refusal.number,
+            ..Truth::default()
         },
     }
 }
 
 // A float, of an element or of a threshold.
-pub fn value_of(answer: ValueAnswer) -> Value
+pub fn value_of(answer: Result<Option<f32>, Refusal>) -> Value
     ensures { result ≡ value_of answer }
 {
     match answer {
-        ValueAnswer::Value(v) => Value {
+        Ok(Some(value)) => Value {
             refusal: 0,
             known: true,
-            value: v,
+            value,
         },
-        ValueAnswer::Absent => Value {
-            refusal: 0,
-            known: false,
-            value: 0.0,
-        },
-        ValueAnswer::Refused(number) => Value {
-            refusal: number,
-            known: false,
-            value: 0.0,
+        Ok(None) => Value::default(),
+        Err(refusal) => Value {
+            refusal: refusal.number,
+            ..Value::default()
         },
     }
 }
 
 // A name's number or a code.
-pub fn number_of(answer: NumberAnswer) -> Number
+pub fn number_of(answer: Result<Option<u32>, Refusal>) -> Number
     ensures { result ≡ number_of answer }
 {
     match answer {
-        NumberAnswer::Number(n) => Number {
+        Ok(Some(number)) => Number {
             refusal: 0,
             known: true,
-            number: n,
+            number,
         },
-        NumberAnswer::Absent => Number {
-            refusal: 0,
-            known: false,
-            number: 0,
+        Ok(None) => Number::default(),
+        Err(refusal) => Number {
+            refusal: refusal.number,
+            ..Number::default()
         },
-        NumberAnswer::Refused(number) => Number {
-            refusal: number,
-            known: false,
-            number: 0,
-        },
-    }
-}
-
-fn known_button(b: ButtonData) -> Button
-    ensures { result ≡ known_button b }
-{
-    Button {
-        refusal: 0,
-        known: true,
-        pressed: b.pressed,
-        repeating: b.repeating,
-        value: b.value,
-        stamp: b.stamp,
-        counter: b.counter,
-        since: b.since,
-    }
-}
-
-fn no_button(number: u8) -> Button
-    ensures { result ≡ no_button number }
-{
-    Button {
-        refusal: number,
-        known: false,
-        pressed: false,
-        repeating: false,
-        value: 0.0,
-        stamp: 0,
-        counter: 0,
-        since: 0,
     }
 }
 
 // A button's record.
-pub fn button_of(answer: ButtonAnswer) -> Button
+pub fn button_of(answer: Result<Option<ButtonData>, Refusal>) -> Button
     ensures { result ≡ button_of answer }
 {
     match answer {
-        ButtonAnswer::Data(b) => known_button(b),
-        ButtonAnswer::Absent => no_button(0),
-        ButtonAnswer::Refused(number) => no_button(number),
-    }
-}
-
-fn known_axis(a: AxisData) -> Axis
-    ensures { result ≡ known_axis a }
-{
-    Axis {
-        refusal: 0,
-        known: true,
-        value: a.value,
-        stamp: a.stamp,
-        counter: a.counter,
-    }
-}
-
-fn no_axis(number: u8) -> Axis
-    ensures { result ≡ no_axis number }
-{
-    Axis {
-        refusal: number,
-        known: false,
-        value: 0.0,
-        stamp: 0,
-        counter: 0,
+        Ok(Some(b)) => Button {
+            refusal: 0,
+            known: true,
+            pressed: b.pressed,
+            repeating: b.repeating,
+            value: b.value,
+            stamp: b.stamp,
+            counter: b.counter,
+            since: b.since,
+        },
+        Ok(None) => Button::default(),
+        Err(refusal) => Button {
+            refusal: refusal.number,
+            ..Button::default()
+        },
     }
 }
 
 // An axis's record.
-pub fn axis_of(answer: AxisAnswer) -> Axis
+pub fn axis_of(answer: Result<Option<AxisData>, Refusal>) -> Axis
     ensures { result ≡ axis_of answer }
 {
     match answer {
-        AxisAnswer::Data(a) => known_axis(a),
-        AxisAnswer::Absent => no_axis(0),
-        AxisAnswer::Refused(number) => no_axis(number),
+        Ok(Some(a)) => Axis {
+            refusal: 0,
+            known: true,
+            value: a.value,
+            stamp: a.stamp,
+            counter: a.counter,
+        },
+        Ok(None) => Axis::default(),
+        Err(refusal) => Axis {
+            refusal: refusal.number,
+            ..Axis::default()
+        },
     }
 }
 
 // What is down on a pad.
-pub fn down_of(answer: DownAnswer) -> Down
+pub fn down_of(answer: Result<PadDown, Refusal>) -> Down
     ensures { result ≡ down_of answer }
 {
     match answer {
-        DownAnswer::Down(count, axis) => Down {
+        Ok(down) => Down {
             refusal: 0,
-            count: count,
-            axis: axis,
+            count: down.count,
+            axis: down.axis,
         },
-        DownAnswer::Refused(number) => Down {
-            refusal: number,
-            count: 0,
-            axis: false,
+        Err(refusal) => Down {
+            refusal: refusal.number,
+            ..Down::default()
         },
-    }
-}
-
-// The number of a tilt.
-fn tilt_number(tilt: Tilt) -> u8
-    ensures { result ≡ tilt_says tilt }
-{
-    match tilt {
-        Tilt::Unmet => UNMET,
-        Tilt::Inside => INSIDE,
-        Tilt::Between => BETWEEN,
-        Tilt::Full => FULL_TILT,
     }
 }
 
@@ -344,27 +276,19 @@ fn tilt_number(tilt: Tilt) -> u8
 pub fn report_of(answer: PumpAnswer, tilt: Tilt) -> Report
     ensures { result ≡ report_of answer tilt }
 {
-    let t = tilt_number(tilt);
-    match answer {
-        PumpAnswer::Drained(place, events, steps) => reported(0, DRAINED, t, place, events, steps),
-        PumpAnswer::Full(place, events, steps) => reported(0, FULL, t, place, events, steps),
-        PumpAnswer::Paused(place, events, steps) => reported(0, PAUSED, t, place, events, steps),
-        PumpAnswer::Refused(number, place, events, steps) => {
-            reported(number, 0, t, place, events, steps)
-        }
-    }
-}
-
-fn reported(refusal: u8, reason: u8, tilt: u8, place: usize, events: usize, steps: usize) -> Report
-    ensures { result ≡ report_by refusal reason tilt place events steps }
-{
+    let (refusal, reason, place, events, steps) = match answer {
+        PumpAnswer::Drained(place, events, steps) => (0, DRAINED, place, events, steps),
+        PumpAnswer::Full(place, events, steps) => (0, FULL, place, events, steps),
+        PumpAnswer::Paused(place, events, steps) => (0, PAUSED, place, events, steps),
+        PumpAnswer::Refused(refusal, place, events, steps) => (refusal, 0, place, events, steps),
+    };
     Report {
-        refusal: refusal,
-        reason: reason,
-        tilt: tilt,
-        place: place,
-        events: events,
-        steps: steps,
+        refusal,
+        reason,
+        tilt: tilt as u8,
+        place,
+        events,
+        steps,
     }
 }
 
@@ -372,33 +296,28 @@ fn reported(refusal: u8, reason: u8, tilt: u8, place: usize, events: usize, step
 pub fn tilted_of(answer: Tilted) -> TiltedPair
     ensures { result ≡ tilted_pair_of answer }
 {
-    let pair = answer.pair;
-    let tilt = answer.tilt;
     TiltedPair {
-        x: pair.x,
-        y: pair.y,
-        tilt: tilt_number(tilt),
+        x: answer.pair.x,
+        y: answer.pair.y,
+        tilt: answer.tilt as u8,
     }
 }
 
 // The repeat that is due, with its event's 22 bytes in the buffer; where none is, the buffer stays.
-pub fn due_of(answer: RepeatAnswer, event: &mut [u8; 22]) -> Due
+pub fn due_of(answer: Result<Option<Event>, Refusal>, event: &mut [u8; 22]) -> Due
     ensures { (result ≡ due_of answer) × (event.new ≡ due_bytes answer event.old) }
 {
     match answer {
-        RepeatAnswer::Due(e) => {
+        Ok(Some(e)) => {
             wire::write_event(event, e);
             Due {
                 refusal: 0,
                 due: true,
             }
         }
-        RepeatAnswer::Quiet => Due {
-            refusal: 0,
-            due: false,
-        },
-        RepeatAnswer::Refused(number) => Due {
-            refusal: number,
+        Ok(None) => Due::default(),
+        Err(refusal) => Due {
+            refusal: refusal.number,
             due: false,
         },
     }

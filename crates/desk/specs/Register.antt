@@ -1,14 +1,13 @@
 -- `register` on a hub that is lent: the call by its refusals in their order, and the law book's registered hub out of what its parts leave.
-use Rattle.std.specs.Prelude.{ℕ, zero, suc, ◌*◌, ◌≤◌, ◌<◌, ◌≡◌, Bool, List, map, Float}
+use Rattle.std.specs.Prelude.{ℕ, zero, suc, ◌*◌, ◌≤◌, ◌<◌, ◌≡◌, Bool, true, false, List, map, ltb, Float, Err, Ok}
 use Rattle.std.proofs.Math.Path.{refl}
-use Rattle.std.proofs.Common.{sym, ◌∙◌, arith, le-ltb, lt-ltb}
+use Rattle.std.proofs.Common.{arith, le-ltb, lt-ltb, ltb-true}
 use Rattle.rules.specs.declared.Hub.{Hub}
 use Rattle.rules.specs.declared.Row.{Row}
 use Rattle.rules.specs.declared.Element.{Element}
 use Rattle.rules.specs.declared.ButtonData.{ButtonData}
 use Rattle.rules.specs.declared.AxisData.{AxisData}
 use Rattle.rules.specs.declared.Slot.{Slot}
-use Rattle.rules.specs.declared.RegisterAnswer.TheVariants as register_answer
 use Rattle.rules.specs.declared.Registered.{Registered}
 use Rattle.rules.specs.Names.{pad_limit, places_per_pad}
 use Rattle.rules.specs.Sheets.{sheet_refusal, hats_of, count_of}
@@ -19,13 +18,16 @@ use Rattle.layout.specs.Laid.{LaidOut}
 use Rattle.hub.specs.declared.Head.{Head}
 use Rattle.hub.specs.Lent.{Listed, listed, columns, hub_from, hub_of, registered}
 use Rattle.desk.specs.Heads.{registered_head}
+use Rattle.rules.specs.declared.Refusal.{Refusal}
+use Rattle.rules.specs.Refusals.{numbered, judged as answer_of, first, unless_fits}
+use Rattle.refusals.specs.Judged.{served as no-refusal, stopped}
 
 -- ---- by the refusal's number
 
 refused :
     (number : ℕ) (h : Hub) (s : List ℕ) →
     0 < number →
-    ◌≡◌ {A = Registered} (record { hub = h; answer = register_answer.Refused number }) (register_by number h s)
+    ◌≡◌ {A = Registered} (record { hub = h; answer = Err (numbered number) }) (register_by number h s)
 refused zero h s some = absurd (omega arith)
 refused (suc number) h s some = refl
 
@@ -33,15 +35,15 @@ served :
     (number : ℕ) (h : Hub) (s : List ℕ) →
     number ≤ 0 →
     ◌≡◌ {A = Registered}
-    (record { hub = registered_at h h.pads (hats_of s) (count_of s) (rows_of s (count_of s)); answer = register_answer.Pad h.pads })
+    (record { hub = registered_at h h.pads (hats_of s) (count_of s) (rows_of s (count_of s)); answer = Ok h.pads })
     (register_by number h s)
 served zero h s none = refl
 served (suc number) h s none = absurd (omega arith)
 
--- ---- the call, on any hub
+-- ---- the call, on any hub, by its refusals in their order
 
 module _ (archived : Bool) (h : Hub) (s : List ℕ) where
-  pub register-full : pad_limit ≤ h.pads → ◌≡◌ {A = Registered} (record { hub = h; answer = register_answer.Refused 2 }) (register_as archived h s)
+  pub register-full : pad_limit ≤ h.pads → ◌≡◌ {A = Registered} (record { hub = h; answer = Err (numbered 2) }) (register_as archived h s)
   unfolding register_as register_refusal
   register-full full = rw (le-ltb h.pads pad_limit full)
 
@@ -50,15 +52,35 @@ module _ (archived : Bool) (h : Hub) (s : List ℕ) where
     unfolding register_as register_refusal
     judged = rw (lt-ltb h.pads pad_limit room, e)
 
-    pub register-refused : 0 < number → ◌≡◌ {A = Registered} (record { hub = h; answer = register_answer.Refused number }) (register_as archived h s)
-    register-refused some = refused number h s some ∙ sym judged
+-- ---- the call, on any hub, by how it is judged
 
-    register-served :
-        {g : Hub} →
-        number ≤ 0 →
-        g ≡ registered_at h h.pads (hats_of s) (count_of s) (rows_of s (count_of s)) →
-        ◌≡◌ {A = Registered} (record { hub = g; answer = register_answer.Pad h.pads }) (register_as archived h s)
-    register-served none is = rw is (served number h s none ∙ sym judged)
+module _ (archived : Bool) (h : Hub) (s : List ℕ) where
+  pub register-refused : {refusal : Refusal} → Err refusal ≡ answer_of (register_refusal archived h.pads s) → ◌≡◌ {A = Registered} (record { hub = h; answer = Err refusal }) (register_as archived h s)
+  unfolding register_as
+  register-refused e =
+      stopped (λ (n : ℕ). register_by n h s) (λ (r : Refusal). record { hub = h; answer = Err r }) (λ (n : ℕ). refl) (register_refusal archived h.pads s) e
+
+  register-served :
+      {g : Hub} →
+      Ok tt ≡ answer_of (register_refusal archived h.pads s) →
+      g ≡ registered_at h h.pads (hats_of s) (count_of s) (rows_of s (count_of s)) →
+      ◌≡◌ {A = Registered} (record { hub = g; answer = Ok h.pads }) (register_as archived h s)
+  unfolding register_as
+  register-served e is = rw (is, no-refusal (register_refusal archived h.pads s) e)
+
+-- what is served has a place, and a good sheet
+both-zero : (room : Bool) (n : ℕ) → first (unless_fits room 2) n ≡ 0 → (room ≡ true) × (n ≡ 0)
+both-zero true n e = (refl, e)
+both-zero false n e = absurd (omega arith)
+
+pub room-and-taken :
+    (archived : Bool) (pads : ℕ) (s : List ℕ) →
+    Ok tt ≡ answer_of (register_refusal archived pads s) →
+    (pads < pad_limit) × (sheet_refusal archived s ≡ 0)
+unfolding register_refusal
+room-and-taken archived pads s e =
+    let zero_both = both-zero (ltb pads pad_limit) (sheet_refusal archived s) (no-refusal (register_refusal archived pads s) e) in
+    (ltb-true pads pad_limit zero_both.0, zero_both.1)
 
 -- ---- the hub with one pad more, whatever stands in the arrays that are not lent
 
@@ -98,11 +120,9 @@ module _
 
   -- the call where nothing refuses it
   pub register-lent :
-      (s : List ℕ) {number w hats count : ℕ} {cs' ks' ns' : List ℕ} {hasbutton' hasaxis' : List Bool} {vs' : List Float} {ms' : List Bool}
+      (s : List ℕ) {w hats count : ℕ} {cs' ks' ns' : List ℕ} {hasbutton' hasaxis' : List Bool} {vs' : List Float} {ms' : List Bool}
       {converts : Bool} {d' : Head} →
-      d.pads < pad_limit →
-      number ≡ sheet_refusal archived s →
-      number ≤ 0 →
+      Ok tt ≡ answer_of (register_refusal archived d.pads s) →
       hats ≡ hats_of s →
       count ≡ count_of s →
       w ≡ d.pads →
@@ -111,11 +131,11 @@ module _
       hasaxis' ≡ cleared_of hasaxis (places_per_pad * w) places_per_pad →
       converts ≡ converts_of hats cs' ns' d.pads →
       d' ≡ registered_head d d.pads hats count converts →
-      registered (record { head = d'; answer = register_answer.Pad d.pads }) (listed cs' ks' ns' renames)
+      registered (record { head = d'; answer = Ok d.pads }) (listed cs' ks' ns' renames)
       (columns hasbutton' hasaxis' vs' times ms' queuebytes queuecodes)
       ≡ register_as archived before s
-  register-lent s room e none eh en ew rows et em ec ed =
-      register-served archived before s room e none
+  register-lent s e eh en ew rows et em ec ed =
+      register-served archived before s e
       (rw (
         hub-with,
         ed,

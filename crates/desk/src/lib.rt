@@ -5,16 +5,15 @@
 
 ghost use Rattle.std.specs.Prelude.{◌≡◌, Bool, List, ℕ, ◌<◌, Float};
 ghost use Rattle.rules.specs.Names.{pad_limit};
-ghost use Rattle.rules.specs.Calls.{new_of, register_as, rename_refusal, rename_of};
+ghost use Rattle.rules.specs.Refusals.{judged};
+ghost use Rattle.rules.specs.Calls.{new_of, register_refusal, register_as, rename_refusal, rename_of};
 ghost use Rattle.hub.specs.Lent.{Listed, Columns, listed, columns, hub_of, answered, registered};
 ghost use Rattle.hub.specs.Heads.{fresh_head};
 ghost use Rattle.desk.specs.Heads.{registered_head, renamed_head};
 
 use columns::{Marks, QueueBytes, QueueCodes, Times, Values};
 use hub::{AnsweredHead, Head, RegisteredHead};
-use rules::{
-    Answer, COUNT_AT, FLAGS_PER_PAD, HATS_AT, NO_NAME, PADS, PLACES_PER_PAD, RegisterAnswer,
-};
+use rules::{COUNT_AT, FLAGS_PER_PAD, HATS_AT, NO_NAME, PADS, PLACES_PER_PAD, Refusal};
 
 // ---- new
 
@@ -24,23 +23,23 @@ fn fresh(pressed: f32, released: f32, reversed: bool, filters: bool, updates: bo
     ensures { result ≡ fresh_head pressed released reversed filters updates }
 {
     Head {
-        pressed: pressed,
-        released: released,
-        reversed: reversed,
-        filters: filters,
-        updates: updates,
+        pressed,
+        released,
+        reversed,
+        filters,
+        updates,
         counter: 0,
-        down: [0u64; 4],
+        down: [0; 4],
         pads: 0,
-        counts: [0u8; 4],
+        counts: [0; 4],
         connected: [false; 4],
-        hats: [0u8; 4],
+        hats: [0; 4],
         converts: [false; 4],
         renamed: [false; 4],
-        newhats: [0u8; 4],
+        newhats: [0; 4],
         newconverts: [false; 4],
-        held: [0u8; 4],
-        heldaxes: [0u8; 4],
+        held: [0; 4],
+        heldaxes: [0; 4],
         flags: [false; 24],
         head: 0,
         waiting: 0,
@@ -71,53 +70,52 @@ pub fn new_hub(
         queuebytes.new queuecodes.new) result.answer
         ≡ new_of pressed released reversed filters updates }
 {
-    *codes = [0u32; 208];
-    *kinds = [0u8; 208];
+    *codes = [0; 208];
+    *kinds = [0; 208];
     *names = [NO_NAME; 208];
     *renames = [NO_NAME; 208];
     *hasbutton = [false; 208];
     *hasaxis = [false; 208];
     columns::blank(values, times, marks, queuebytes, queuecodes);
-    let number = refusals::thresholds_refusal(pressed, released);
-    if 0 < number {
+    if let Err(refusal) = refusals::thresholds_refusal(pressed, released) {
         return AnsweredHead {
             head: fresh(1.0, 0.0, false, false, false),
-            answer: Answer::Refused(number),
+            answer: Err(refusal),
         };
     }
     AnsweredHead {
         head: fresh(pressed, released, reversed, filters, updates),
-        answer: Answer::Done,
+        answer: Ok(()),
     }
 }
 
 // ---- register
 
 // The head with one pad more.
+#[tactic(auto, unfolding(crate::specs::Heads::registered_head))]
 fn with_pad(head: Head, p: u8, hats: u8, count: u8, converts: bool) -> Head
     requires { p < pad_limit }
     ensures { result ≡ registered_head head p hats count converts }
 {
     let mut h = head;
-    let mut down = h.down;
-    let mut held = h.held;
-    let mut heldaxes = h.heldaxes;
-    down::clear(&mut down, &mut held, &mut heldaxes, p);
-    h.down = down;
-    h.held = held;
-    h.heldaxes = heldaxes;
+    down::clear(&mut h.down, &mut h.held, &mut h.heldaxes, p);
     h.pads = p + 1;
     pad::set_pad(&mut h.counts, p, count);
     pad::mark_pad(&mut h.connected, p, true);
     pad::set_pad(&mut h.hats, p, hats);
     pad::mark_pad(&mut h.converts, p, converts);
     pad::mark_pad(&mut h.renamed, p, false);
-    pad::clear_flags(
-        &mut h.flags,
-        FLAGS_PER_PAD * choices::wide(p),
-        FLAGS_PER_PAD,
-    );
+    pad::clear_flags(&mut h.flags, FLAGS_PER_PAD * usize::from(p), FLAGS_PER_PAD);
     h
+}
+
+// The refusals of a registration: 2, where the four pads stand, then its sheet's.
+#[tactic(auto, unfolding(rules::specs::Calls::register_refusal))]
+fn register_refusal(archived: bool, pads: u8, sheet: &[u8]) -> Result<(), Refusal>
+    ensures { result ≡ judged (register_refusal archived pads sheet.now) }
+{
+    refusals::refuse_unless(pads < PADS, 2)?;
+    sheets::sheet_refusal(archived, sheet)
 }
 
 // A pad from its sheet: the pad's number, or 2, 3, 4, 29, 5 in this order. W-212's second call is the one with `archived`, which leaves 29 out.
@@ -142,45 +140,35 @@ pub fn register(
         sheet.now }
 {
     let p = head.pads;
-    if PADS <= p {
+    if let Err(refusal) = register_refusal(archived, p, sheet) {
         return RegisteredHead {
-            head: head,
-            answer: RegisterAnswer::Refused(2),
-        };
-    }
-    let number = sheets::sheet_refusal(archived, sheet);
-    if 0 < number {
-        return RegisteredHead {
-            head: head,
-            answer: RegisterAnswer::Refused(number),
+            head,
+            answer: Err(refusal),
         };
     }
     let hats = sheet[HATS_AT];
     let count = sheet[COUNT_AT];
-    let start = PLACES_PER_PAD * choices::wide(p);
+    let start = PLACES_PER_PAD * usize::from(p);
     layout::lay_in(codes, kinds, names, values, marks, start, sheet);
     pad::clear(hasbutton, start, PLACES_PER_PAD);
     pad::clear(hasaxis, start, PLACES_PER_PAD);
     let converts = pad::converts(hats, codes, names, p);
     RegisteredHead {
         head: with_pad(head, p, hats, count, converts),
-        answer: RegisterAnswer::Pad(p),
+        answer: Ok(p),
     }
 }
 
 // ---- rename
 
 #[tactic(auto, unfolding(rules::specs::Calls::rename_refusal))]
-fn rename_refusal(head: Head, p: u8, list: &[u8]) -> u8
-    ensures { (s : Listed) (t : Columns) → result ≡ rename_refusal (hub_of head s t) p list.now }
+fn rename_refusal(head: Head, p: u8, list: &[u8]) -> Result<(), Refusal>
+    ensures { (s : Listed) (t : Columns) →
+        result ≡ judged (rename_refusal (hub_of head s t) p list.now) }
 {
-    refusals::first(
-        refusals::unless_fits(refusals::is_registered(head.pads, p), 6),
-        refusals::first(
-            refusals::unless_fits(pad::pad_bool(&head.connected, p), 7),
-            sheets::rename_list_refusal(list, pad::pad_number(&head.counts, p)),
-        ),
-    )
+    refusals::pad_refusal(head.pads, p)?;
+    refusals::refuse_unless(pad::pad_bool(&head.connected, p), 7)?;
+    sheets::rename_list_refusal(list, pad::pad_number(&head.counts, p))
 }
 
 // The head with a pad that goes by other names, and whose hats are 0.
@@ -210,17 +198,16 @@ pub fn rename<'s>(
         ≡ rename_of (hub_of head (listed codes.now kinds.now names renames.old)
         (columns hasbutton hasaxis values times marks queuebytes queuecodes)) p list.now }
 {
-    let number = rename_refusal(head, p, list);
-    if 0 < number {
+    if let Err(refusal) = rename_refusal(head, p, list) {
         return AnsweredHead {
-            head: head,
-            answer: Answer::Refused(number),
+            head,
+            answer: Err(refusal),
         };
     }
     layout::rename_in(renames, kinds, p, list);
     let converts = pad::converts(0, codes, renames, p);
     AnsweredHead {
         head: with_names(head, p, converts),
-        answer: Answer::Done,
+        answer: Ok(()),
     }
 }

@@ -9,18 +9,14 @@ ghost use Rattle.rules.specs.Names.{is_y};
 ghost use Rattle.rules.specs.Forms.{kind_pressed, kind_released};
 ghost use Rattle.rules.specs.Dispatch as law;
 
-use rules::{Dispatched, Element, Event, EventType, RawRecord};
-
-// the kinds of a raw record; what is none of these is Disconnected
-const PRESSED: u8 = 1;
-
-const RELEASED: u8 = 2;
-
-const AXIS: u8 = 3;
-
-const CONNECTED: u8 = 4;
+use rules::{
+    Dispatched, Element, Event, EventType, KIND_AXIS, KIND_CONNECTED, KIND_PRESSED, KIND_RELEASED,
+    RawRecord,
+};
 
 // ---- an event of the record's pad and time, alone or with another queued
+
+// Two fields say what follows, a flag and the event: so the definitions single and double of rules/specs/Dispatch have it.
 
 fn from(r: RawRecord, t: EventType) -> Event
     ensures { result ≡ law.from r t }
@@ -32,23 +28,23 @@ fn from(r: RawRecord, t: EventType) -> Event
     }
 }
 
-fn single(e: Event) -> Dispatched
-    ensures { result ≡ law.single e }
+fn single(event: Event) -> Dispatched
+    ensures { result ≡ law.single event }
 {
     Dispatched {
-        event: e,
+        event,
         follows: false,
-        next: e,
+        next: event,
     }
 }
 
-fn double(e: Event, next: Event) -> Dispatched
-    ensures { result ≡ law.double e next }
+fn double(event: Event, next: Event) -> Dispatched
+    ensures { result ≡ law.double event next }
 {
     Dispatched {
-        event: e,
+        event,
         follows: true,
-        next: next,
+        next,
     }
 }
 
@@ -60,9 +56,10 @@ pub fn button_name(name: u8) -> u8
     ensures { result ≡ law.button_name name }
 {
     if names::is_button(name) {
-        return name;
+        name
+    } else {
+        names::UNKNOWN_BUTTON
     }
-    names::UNKNOWN_BUTTON
 }
 
 #[tactic(auto, unfolding(rules::specs::Dispatch::axis_name))]
@@ -70,9 +67,10 @@ fn axis_name(name: u8) -> u8
     ensures { result ≡ law.axis_name name }
 {
     if names::is_axis(name) {
-        return name;
+        name
+    } else {
+        names::UNKNOWN_AXIS
     }
-    names::UNKNOWN_AXIS
 }
 
 // ---- a button element
@@ -81,9 +79,10 @@ fn press_type(on: bool, name: u8, code: u32) -> EventType
     ensures { result ≡ law.press_type on name code }
 {
     if on {
-        return EventType::Pressed(name, code);
+        EventType::Pressed(name, code)
+    } else {
+        EventType::Released(name, code)
     }
-    EventType::Released(name, code)
 }
 
 fn amount(on: bool) -> f32
@@ -100,13 +99,14 @@ fn press(r: RawRecord, name: u8, on: bool) -> Dispatched
     let code = r.code;
     let value = amount(on);
     if names::is_axis(name) {
-        return single(from(r, EventType::Axis(name, code, value)));
+        single(from(r, EventType::Axis(name, code, value)))
+    } else {
+        let button = button_name(name);
+        double(
+            from(r, press_type(on, button, code)),
+            from(r, EventType::Changed(button, code, value)),
+        )
     }
-    let button = button_name(name);
-    double(
-        from(r, press_type(on, button, code)),
-        from(r, EventType::Changed(button, code, value)),
-    )
 }
 
 // ---- an axis element
@@ -115,14 +115,14 @@ fn press(r: RawRecord, name: u8, on: bool) -> Dispatched
 fn presses(value: f32, held: bool, pressed: f32) -> bool
     ensures { result ≡ (le pressed value && not held) }
 {
-    if pressed <= value { !held } else { false }
+    pressed <= value && !held
 }
 
 // "at or below released and pressed"
 fn releases(value: f32, held: bool, released: f32) -> bool
     ensures { result ≡ (le value released && held) }
 {
-    if value <= released { held } else { false }
+    value <= released && held
 }
 
 #[tactic(auto, unfolding(rules::specs::Dispatch::trigger_gives))]
@@ -139,19 +139,19 @@ fn trigger(
     let code = r.code;
     let changed = from(r, EventType::Changed(name, code, value));
     if presses(value, held, pressed) {
-        return double(from(r, EventType::Pressed(name, code)), changed);
+        double(from(r, EventType::Pressed(name, code)), changed)
+    } else if releases(value, held, released) {
+        double(from(r, EventType::Released(name, code)), changed)
+    } else {
+        single(changed)
     }
-    if releases(value, held, released) {
-        return double(from(r, EventType::Released(name, code)), changed);
-    }
-    single(changed)
 }
 
 // whether the axis is one that the hub turns over
 fn turned(reversed: bool, axis: u8) -> bool
     ensures { result ≡ (reversed && is_y axis) }
 {
-    if reversed { names::is_y(axis) } else { false }
+    reversed && names::is_y(axis)
 }
 
 #[tactic(auto, unfolding(rules::specs::Dispatch::move_gives))]
@@ -170,17 +170,18 @@ fn moved(
     let raw = r.value;
     if names::is_button(name) {
         let value = scale::button_value(element.low, element.range, raw);
-        return trigger(r, name, value, held, pressed, released);
+        trigger(r, name, value, held, pressed, released)
+    } else {
+        let axis = axis_name(name);
+        let value = scale::axis_value(
+            element.low,
+            element.range,
+            element.odd,
+            turned(reversed, axis),
+            raw,
+        );
+        single(from(r, EventType::Axis(axis, r.code, value)))
     }
-    let axis = axis_name(name);
-    let value = scale::axis_value(
-        element.low,
-        element.range,
-        element.odd,
-        turned(reversed, axis),
-        raw,
-    );
-    single(from(r, EventType::Axis(axis, r.code, value)))
 }
 
 // ---- every kind
@@ -189,7 +190,7 @@ fn moved(
 fn is_press(kind: u8) -> bool
     ensures { result ≡ (eqb kind kind_pressed || eqb kind kind_released) }
 {
-    kind == PRESSED || kind == RELEASED
+    kind == KIND_PRESSED || kind == KIND_RELEASED
 }
 
 // What a taken record gives: gilrs's `next_event_priv`, with the value scaled and a trigger's press or release told by the thresholds.
@@ -208,14 +209,13 @@ pub fn dispatch(
 {
     let kind = r.kind;
     // a press and a release are one case, so that the machine tests the kind and jumps by no table
-    if kind == AXIS {
-        return moved(r, name, element, held, pressed, released, reversed);
+    if kind == KIND_AXIS {
+        moved(r, name, element, held, pressed, released, reversed)
+    } else if is_press(kind) {
+        press(r, name, kind == KIND_PRESSED)
+    } else if kind == KIND_CONNECTED {
+        single(from(r, EventType::Connected))
+    } else {
+        single(from(r, EventType::Disconnected))
     }
-    if is_press(kind) {
-        return press(r, name, kind == PRESSED);
-    }
-    if kind == CONNECTED {
-        return single(from(r, EventType::Connected));
-    }
-    single(from(r, EventType::Disconnected))
 }

@@ -10,9 +10,9 @@ ghost use Rattle.down.specs.Down.{change_of, was_of, is_of, Followed, Cleared, J
 
 use rules::{ELEMENT_AXIS, KIND_CONNECTED, PLACES_PER_PAD};
 
-const MOST: u8 = 52;
+const MOST: u8 = PLACES_PER_PAD as u8;
 
-// ---- how a record reads with an event, beside how it read before: one number, since the pump hands it on
+// ---- how a record reads with an event, beside how it read before: one number, since the pump hands it on, and no enum, since `follow` answers for any (`was_of`, `is_of`)
 
 const CEASES: u8 = 0;
 
@@ -51,10 +51,12 @@ fn put_bit(bits: u64, place: usize, v: bool) -> u64
 fn count_after(n: u8, v: bool) -> u8
     ensures { result ≡ count_after n v }
 {
-    if v {
-        if n < MOST { n + 1 } else { n }
+    if !v {
+        n.saturating_sub(1)
+    } else if n < MOST {
+        n + 1
     } else {
-        if 0 < n { n - 1 } else { 0 }
+        n
     }
 }
 
@@ -64,31 +66,13 @@ fn bit_in(numbers: &mut [u64], p: usize, place: usize, v: bool)
     requires { place < places_per_pad }
     ensures { numbers.new ≡ set numbers.old p (put_bit (get_or numbers.old p 0) place v) }
 {
-    if p < numbers.len() {
-        numbers[p] = put_bit(numbers[p], place, v);
-    }
+    pad::store(numbers, p, put_bit(pad::read(numbers, p, 0), place, v));
 }
 
 fn count_in(numbers: &mut [u8], p: usize, v: bool)
     ensures { numbers.new ≡ set numbers.old p (count_after (get_or numbers.old p 0) v) }
 {
-    if p < numbers.len() {
-        numbers[p] = count_after(numbers[p], v);
-    }
-}
-
-fn bits_in(numbers: &[u64], p: usize) -> u64
-    ensures { result ≡ get_or numbers.now p 0 }
-{
-    if p < numbers.len() { numbers[p] } else { 0 }
-}
-
-fn none_in(numbers: &mut [u64], p: usize)
-    ensures { numbers.new ≡ set numbers.old p 0 }
-{
-    if p < numbers.len() {
-        numbers[p] = 0;
-    }
+    pad::store(numbers, p, count_after(pad::read(numbers, p, 0), v));
 }
 
 // ---- the summary
@@ -110,7 +94,7 @@ pub fn follow(
     }
     let is = change == BEGINS;
     let p = k / PLACES_PER_PAD;
-    bit_in(down, p, k - PLACES_PER_PAD * p, is);
+    bit_in(down, p, k % PLACES_PER_PAD, is);
     count_in(held, p, is);
     if pad::kind_at(kinds, k) == ELEMENT_AXIS {
         count_in(heldaxes, p, is);
@@ -122,12 +106,13 @@ pub fn clear(down: &mut [u64; 4], held: &mut [u8; 4], heldaxes: &mut [u8; 4], pa
     ensures { Cleared down.old held.old heldaxes.old pad
         down.new held.new heldaxes.new }
 {
-    none_in(down, pad as usize);
+    pad::store(down, pad as usize, 0);
     pad::set_pad(held, pad, 0);
     pad::set_pad(heldaxes, pad, 0);
 }
 
 // Nothing of a pad is down once it joins.
+#[tactic(auto, unfolding(rules::specs::Step::down_cleared))]
 pub fn join(down: &mut [u64; 4], held: &mut [u8; 4], heldaxes: &mut [u8; 4], pad: u8, kind: u8)
     ensures { Joined down.old held.old heldaxes.old pad kind
         down.new held.new heldaxes.new }
@@ -141,6 +126,6 @@ pub fn join(down: &mut [u64; 4], held: &mut [u8; 4], heldaxes: &mut [u8; 4], pad
 pub fn lowest(down: &[u64; 4], pad: u8) -> usize
     ensures { (result ≡ lowest_of (get_or down.now pad 0)) × (result ≤ places_per_pad) }
 {
-    let zeros = u64::trailing_zeros(bits_in(down, pad as usize)) as usize;
-    choices::least(zeros, PLACES_PER_PAD)
+    let zeros = pad::read(down, pad as usize, 0).trailing_zeros() as usize;
+    zeros.min(PLACES_PER_PAD)
 }

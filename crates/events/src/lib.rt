@@ -25,10 +25,12 @@ pub const EVENT_DROPPED: u8 = 8;
 
 // ---- what an event holds, by its cases
 
-fn kind_type(t: EventType) -> u8
-    ensures { result ≡ kind_type t }
+// The number of an event's kind, in its bytes.
+#[tactic(auto, unfolding(rules::specs::Events::kind_of))]
+pub fn kind_of(e: Event) -> u8
+    ensures { result ≡ kind_of e }
 {
-    match t {
+    match e.event {
         EventType::Pressed(_, _) => EVENT_PRESSED,
         EventType::Released(_, _) => EVENT_RELEASED,
         EventType::Repeated(_, _) => EVENT_REPEATED,
@@ -40,82 +42,19 @@ fn kind_type(t: EventType) -> u8
     }
 }
 
-fn name_type(t: EventType) -> u8
-    ensures { result ≡ name_type t }
-{
-    match t {
-        EventType::Pressed(n, _) => n,
-        EventType::Released(n, _) => n,
-        EventType::Repeated(n, _) => n,
-        EventType::Changed(n, _, _) => n,
-        EventType::Axis(n, _, _) => n,
-        EventType::Connected => NO_NAME,
-        EventType::Disconnected => NO_NAME,
-        EventType::Dropped => NO_NAME,
-    }
-}
-
-fn code_type(t: EventType) -> u32
-    ensures { result ≡ code_type t }
-{
-    match t {
-        EventType::Pressed(_, c) => c,
-        EventType::Released(_, c) => c,
-        EventType::Repeated(_, c) => c,
-        EventType::Changed(_, c, _) => c,
-        EventType::Axis(_, c, _) => c,
-        EventType::Connected => 0,
-        EventType::Disconnected => 0,
-        EventType::Dropped => 0,
-    }
-}
-
-fn value_type(t: EventType) -> f32
-    ensures { result ≡ value_type t }
-{
-    match t {
-        EventType::Pressed(_, _) => 0.0,
-        EventType::Released(_, _) => 0.0,
-        EventType::Repeated(_, _) => 0.0,
-        EventType::Changed(_, _, v) => v,
-        EventType::Axis(_, _, v) => v,
-        EventType::Connected => 0.0,
-        EventType::Disconnected => 0.0,
-        EventType::Dropped => 0.0,
-    }
-}
-
-fn dropped_type(t: EventType) -> bool
-    ensures { result ≡ dropped_type t }
-{
-    match t {
-        EventType::Pressed(_, _) => false,
-        EventType::Released(_, _) => false,
-        EventType::Repeated(_, _) => false,
-        EventType::Changed(_, _, _) => false,
-        EventType::Axis(_, _, _) => false,
-        EventType::Connected => false,
-        EventType::Disconnected => false,
-        EventType::Dropped => true,
-    }
-}
-
-// The number of an event's kind, in its bytes.
-#[tactic(auto, unfolding(rules::specs::Events::kind_of))]
-pub fn kind_of(e: Event) -> u8
-    ensures { result ≡ kind_of e }
-{
-    let t = e.event;
-    kind_type(t)
-}
-
-// An event's name; 0 where it has none.
+// An event's name; 255 where it has none.
 #[tactic(auto, unfolding(rules::specs::Events::name_of))]
 pub fn name_of(e: Event) -> u8
     ensures { result ≡ name_of e }
 {
-    let t = e.event;
-    name_type(t)
+    match e.event {
+        EventType::Pressed(name, _)
+        | EventType::Released(name, _)
+        | EventType::Repeated(name, _)
+        | EventType::Changed(name, _, _)
+        | EventType::Axis(name, _, _) => name,
+        _ => NO_NAME,
+    }
 }
 
 // An event's code; 0 where it has none.
@@ -123,8 +62,14 @@ pub fn name_of(e: Event) -> u8
 pub fn code_of(e: Event) -> u32
     ensures { result ≡ code_of e }
 {
-    let t = e.event;
-    code_type(t)
+    match e.event {
+        EventType::Pressed(_, code)
+        | EventType::Released(_, code)
+        | EventType::Repeated(_, code)
+        | EventType::Changed(_, code, _)
+        | EventType::Axis(_, code, _) => code,
+        _ => 0,
+    }
 }
 
 // An event's value; 0.0 where it has none.
@@ -132,8 +77,10 @@ pub fn code_of(e: Event) -> u32
 pub fn value_of(e: Event) -> f32
     ensures { result ≡ value_of e }
 {
-    let t = e.event;
-    value_type(t)
+    match e.event {
+        EventType::Changed(_, _, value) | EventType::Axis(_, _, value) => value,
+        _ => 0.0,
+    }
 }
 
 // Whether a filter dropped the event.
@@ -141,8 +88,7 @@ pub fn value_of(e: Event) -> f32
 pub fn is_dropped(e: Event) -> bool
     ensures { result ≡ is_dropped e }
 {
-    let t = e.event;
-    dropped_type(t)
+    matches!(e.event, EventType::Dropped)
 }
 
 // "a dropped one is skipped (filters on)"
@@ -150,10 +96,7 @@ pub fn is_dropped(e: Event) -> bool
 pub fn kept(on: bool, e: Event) -> bool
     ensures { result ≡ kept_of on e }
 {
-    if on {
-        return !is_dropped(e);
-    }
-    true
+    !(on && is_dropped(e))
 }
 
 // The event of a kind, its name, code and value.
@@ -161,28 +104,16 @@ pub fn kept(on: bool, e: Event) -> bool
 pub fn type_of(kind: u8, name: u8, code: u32, value: f32) -> EventType
     ensures { result ≡ type_of kind name code value }
 {
-    if kind == EVENT_PRESSED {
-        return EventType::Pressed(name, code);
+    match kind {
+        EVENT_PRESSED => EventType::Pressed(name, code),
+        EVENT_RELEASED => EventType::Released(name, code),
+        EVENT_REPEATED => EventType::Repeated(name, code),
+        EVENT_CHANGED => EventType::Changed(name, code, value),
+        EVENT_AXIS => EventType::Axis(name, code, value),
+        EVENT_CONNECTED => EventType::Connected,
+        EVENT_DISCONNECTED => EventType::Disconnected,
+        _ => EventType::Dropped,
     }
-    if kind == EVENT_RELEASED {
-        return EventType::Released(name, code);
-    }
-    if kind == EVENT_REPEATED {
-        return EventType::Repeated(name, code);
-    }
-    if kind == EVENT_CHANGED {
-        return EventType::Changed(name, code, value);
-    }
-    if kind == EVENT_AXIS {
-        return EventType::Axis(name, code, value);
-    }
-    if kind == EVENT_CONNECTED {
-        return EventType::Connected;
-    }
-    if kind == EVENT_DISCONNECTED {
-        return EventType::Disconnected;
-    }
-    EventType::Dropped
 }
 
 // An event as it waits.
@@ -205,11 +136,10 @@ pub fn slot_of(e: Event) -> Slot
 pub fn event_of(s: Slot) -> Event
     ensures { result ≡ event_of s }
 {
-    let t = type_of(s.kind, s.name, s.code, s.value);
     Event {
         pad: s.pad,
         time: s.time,
-        event: t,
+        event: type_of(s.kind, s.name, s.code, s.value),
     }
 }
 
@@ -220,12 +150,10 @@ pub fn event_of(s: Slot) -> Event
 pub fn form_event(f: EventForm) -> Event
     ensures { result ≡ form_event f }
 {
-    let v = binary32::of_bits(f.bits);
-    let t = type_of(f.kind, f.name, f.code, v);
     Event {
         pad: f.pad,
         time: f.time,
-        event: t,
+        event: type_of(f.kind, f.name, f.code, binary32::of_bits(f.bits)),
     }
 }
 

@@ -1,5 +1,4 @@
--- What a hat's axis gives, by where it stands. The two ways to press a direction are one: toward the positive end, and toward the negative end
--- with the directions exchanged.
+-- What a hat's axis gives at -1.0: the two ways to press a direction are one, toward the positive end, and toward the negative end with the directions exchanged.
 use Rattle.std.proofs.Common.{◌≡◌, refl, Bool, true, false, ℕ}
 use Rattle.std.specs.Float.Ieee.{Float, eq, neg, of_bits}
 use Rattle.numbers.specs.Constants.{one32, minus_one32}
@@ -7,11 +6,6 @@ use Rattle.rules.specs.declared.Event.{Event}
 use Rattle.rules.specs.declared.View.{View}
 use Rattle.rules.specs.Filters.{Direction, hat_by, hat_gives}
 use Rattle.filters.specs.Converted.{plus, minus}
-
-toward-plus : (m p held : Bool) (e : Event) (a b : Direction) → hat_by true false false held e a b ≡ hat_by true m p held e a b
-unfolding hat_by
-toward-plus m p true e a b = refl
-toward-plus m p false e a b = refl
 
 toward-minus : (q held : Bool) (e : Event) (a b : Direction) → hat_by true false false held e b a ≡ hat_by false true held q e a b
 unfolding hat_by
@@ -24,16 +18,7 @@ unfolding neg of_bits
 minus_one = refl
 
 module _ (v : View) (e : Event) (n : ℕ) (x : Float) where
-  pub at-plus : eq x one32 ≡ true → hat_by true false false v.negative e (plus n) (minus n) ≡ hat_gives v e n x
-  unfolding hat_gives
-  at-plus h = rw h (toward-plus (eq x minus_one32) v.positive v.negative e (plus n) (minus n))
-
   pub at-minus :
       eq x one32 ≡ false → eq x (neg one32) ≡ true → hat_by true false false v.positive e (minus n) (plus n) ≡ hat_gives v e n x
   unfolding hat_gives
   at-minus h k = rw (h, ← minus_one, k) (toward-minus v.negative v.positive e (plus n) (minus n))
-
-  pub at_rest :
-      eq x one32 ≡ false → eq x (neg one32) ≡ false → hat_by false false v.positive v.negative e (plus n) (minus n) ≡ hat_gives v e n x
-  unfolding hat_gives
-  at_rest h k = rw (h, ← minus_one, k)

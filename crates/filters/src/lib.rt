@@ -4,12 +4,12 @@
 
 pub mod dpad;
 
-ghost use Rattle.std.specs.Prelude.{◌≡◌, cond};
-ghost use Rattle.numbers.specs.Constants.{zero32};
+ghost use Rattle.std.specs.Prelude.{◌≡◌};
 ghost use Rattle.rules.specs.Filters as law;
 ghost use Rattle.filters.specs.Lanes.{zoned_value};
 ghost use Rattle.filters.specs.Meets.{without, zone_meets};
 
+use choices::chosen;
 use numbers::{Pair, Tilt};
 use rules::{Event, EventType, Flags, View, Zoned};
 
@@ -20,21 +20,9 @@ use rules::{Event, EventType, Flags, View, Zoned};
 pub fn jittered(v: View, e: Event) -> Event
     ensures { result ≡ law.jittered_of v e }
 {
-    let t = e.event;
-    match t {
-        EventType::Axis(_, _, x) => {
-            if choices::both(v.stored, scale::jitters(x, v.stick)) {
-                return dpad::dropped(e);
-            }
-            e
-        }
-        EventType::Pressed(_, _) => e,
-        EventType::Released(_, _) => e,
-        EventType::Repeated(_, _) => e,
-        EventType::Changed(_, _, _) => e,
-        EventType::Connected => e,
-        EventType::Disconnected => e,
-        EventType::Dropped => e,
+    match e.event {
+        EventType::Axis(_, _, x) if v.stored && scale::jitters(x, v.stick) => dpad::dropped(e),
+        _ => e,
     }
 }
 
@@ -78,13 +66,6 @@ fn unless(same: bool, e: Event, t: EventType) -> Event
     }
 }
 
-// "the partner read from the state"; an axis with no partner has 0.0 beside it
-fn beside(stands: bool, value: f32) -> f32
-    ensures { result ≡ cond stands value zero32 }
-{
-    if stands { value } else { 0.0 }
-}
-
 // both fell into the dead zone, the partner had sent a value other than 0, and the state still has one
 #[tactic(auto, unfolding(rules::specs::Filters::clears_partner))]
 fn clears_partner(v: View, pair: Pair) -> bool
@@ -92,20 +73,7 @@ fn clears_partner(v: View, pair: Pair) -> bool
 {
     let p = v.partner;
     let f = v.flags;
-    choices::both(
-        p.stands,
-        choices::both(
-            pair.x == 0.0,
-            choices::both(pair.y == 0.0, choices::both(f.partner, p.value != 0.0)),
-        ),
-    )
-}
-
-// whether a value other than 0 was sent last: as before where the event is dropped
-fn own_flag(same: bool, before: bool, sent: bool) -> bool
-    ensures { result ≡ cond same before sent }
-{
-    if same { before } else { sent }
+    p.stands & (pair.x == 0.0) & (pair.y == 0.0) & f.partner & (p.value != 0.0)
 }
 
 // an axis: the event with its value after the deadzone, the partner's clearing event, and the flags after
@@ -122,47 +90,33 @@ fn stick(v: View, e: Event, n: u8, c: u32, pair: Pair) -> Zoned
     let clearing = dpad::with(e, EventType::Axis(names::partner_of(n), p.code, 0.0));
     Zoned {
         event: sent,
-        clears: clears,
-        clearing: clearing,
+        clears,
+        clearing,
         flags: Flags {
-            own: own_flag(same, f.own, x != 0.0),
-            partner: choices::both(f.partner, !clears),
+            // whether a value other than 0 was sent last: as before where the event is dropped
+            own: chosen(same, f.own, x != 0.0),
+            partner: f.partner & !clears,
         },
     }
 }
 
 // gilrs's `deadzone`
-#[tactic(auto, unfolding(rules::specs::Filters::deadzoned_of, rules::specs::Tilt::zone_met))]
+#[tactic(auto, unfolding(rules::specs::Filters::deadzoned_of, rules::specs::Filters::button_zoned, rules::specs::Tilt::zone_met, crate::specs::Lanes::zoned_value))]
 pub fn deadzoned(v: View, e: Event) -> Met
     ensures { result ≡ zone_meets v e }
 {
-    let t = e.event;
-    match t {
-        EventType::Axis(n, c, x) => {
-            if v.dead {
-                let p = v.partner;
-                let f = scale::apply_deadzone(x, beside(p.stands, p.value), v.threshold);
-                let tilt = f.tilt;
-                return Met {
-                    zoned: stick(v, e, n, c, f.pair),
-                    tilt: tilt,
-                };
+    match e.event {
+        EventType::Axis(n, c, x) if v.dead => {
+            let p = v.partner;
+            // "the partner read from the state"; an axis with no partner has 0.0 beside it
+            let f = scale::apply_deadzone(x, chosen(p.stands, p.value, 0.0), v.threshold);
+            Met {
+                zoned: stick(v, e, n, c, f.pair),
+                tilt: f.tilt,
             }
-            passes(v, e)
         }
-        EventType::Changed(n, c, x) => {
-            if v.dead {
-                let y = scale::shrink_value(x, v.threshold);
-                return passes(v, unless(v.own == y, e, EventType::Changed(n, c, y)));
-            }
-            passes(v, e)
-        }
-        EventType::Pressed(_, _) => passes(v, e),
-        EventType::Released(_, _) => passes(v, e),
-        EventType::Repeated(_, _) => passes(v, e),
-        EventType::Connected => passes(v, e),
-        EventType::Disconnected => passes(v, e),
-        EventType::Dropped => passes(v, e),
+        EventType::Changed(..) if v.dead => passes(v, zoned_value(v.own, v.threshold, e)),
+        _ => passes(v, e),
     }
 }
 
@@ -171,19 +125,12 @@ pub fn deadzoned(v: View, e: Event) -> Met
 pub fn zoned_value(own: f32, threshold: f32, e: Event) -> Event
     ensures { result ≡ zoned_value own threshold e }
 {
-    let t = e.event;
-    match t {
+    match e.event {
         EventType::Changed(n, c, x) => {
             let y = scale::shrink_value(x, threshold);
             unless(own == y, e, EventType::Changed(n, c, y))
         }
-        EventType::Axis(_, _, _) => e,
-        EventType::Pressed(_, _) => e,
-        EventType::Released(_, _) => e,
-        EventType::Repeated(_, _) => e,
-        EventType::Connected => e,
-        EventType::Disconnected => e,
-        EventType::Dropped => e,
+        _ => e,
     }
 }
 
@@ -191,6 +138,5 @@ pub fn zoned_value(own: f32, threshold: f32, e: Event) -> Event
 pub fn unturned(v: View, e: Event) -> Met
     ensures { result ≡ zone_meets v (law.jittered_of v e) }
 {
-    let kept = jittered(v, e);
-    deadzoned(v, kept)
+    deadzoned(v, jittered(v, e))
 }

@@ -1,5 +1,5 @@
--- A head with other fields of one kind and the rest as they were, as the law book's setters do for the hub; a fresh head; and the head of a hub. Only these and
--- `hub_from` write a head out.
+-- A head with other fields of one kind and the rest as they were, as the law book's setters do for the hub; a fresh head; and the head of a hub. Only
+-- `fresh_head`, `head_in` and `hub_from` write a head out.
 use Rattle.std.specs.Prelude.{ℕ, ◌*◌, Bool, false, List, replicate, Float}
 use Rattle.rules.specs.declared.Hub.{Hub}
 use Rattle.rules.specs.Names.{pad_limit, flags_per_pad}
@@ -59,156 +59,24 @@ head_in h =
 
 -- what is kept of the pads' sheets
 abbrev pub head_sheet : Head → ℕ → List ℕ → List ℕ → List Bool → Head
-head_sheet d pads counts hats converts =
-    record {
-      pressed = d.pressed;
-      released = d.released;
-      reversed = d.reversed;
-      filters = d.filters;
-      updates = d.updates;
-      counter = d.counter;
-      down = d.down;
-      pads = pads;
-      counts = counts;
-      connected = d.connected;
-      hats = hats;
-      converts = converts;
-      renamed = d.renamed;
-      newhats = d.newhats;
-      newconverts = d.newconverts;
-      held = d.held;
-      heldaxes = d.heldaxes;
-      flags = d.flags;
-      head = d.head;
-      waiting = d.waiting;
-    }
+head_sheet d pads counts hats converts = record d { pads = pads; counts = counts; hats = hats; converts = converts }
 
 -- what a rename puts beside the sheet
 abbrev pub head_names : Head → List ℕ → List Bool → Head
-head_names d newhats newconverts =
-    record {
-      pressed = d.pressed;
-      released = d.released;
-      reversed = d.reversed;
-      filters = d.filters;
-      updates = d.updates;
-      counter = d.counter;
-      down = d.down;
-      pads = d.pads;
-      counts = d.counts;
-      connected = d.connected;
-      hats = d.hats;
-      converts = d.converts;
-      renamed = d.renamed;
-      newhats = newhats;
-      newconverts = newconverts;
-      held = d.held;
-      heldaxes = d.heldaxes;
-      flags = d.flags;
-      head = d.head;
-      waiting = d.waiting;
-    }
+head_names d newhats newconverts = record d { newhats = newhats; newconverts = newconverts }
 
 -- which pads are connected, and which go by other names
 abbrev pub head_marks : Head → List Bool → List Bool → Head
-head_marks d connected renamed =
-    record {
-      pressed = d.pressed;
-      released = d.released;
-      reversed = d.reversed;
-      filters = d.filters;
-      updates = d.updates;
-      counter = d.counter;
-      down = d.down;
-      pads = d.pads;
-      counts = d.counts;
-      connected = connected;
-      hats = d.hats;
-      converts = d.converts;
-      renamed = renamed;
-      newhats = d.newhats;
-      newconverts = d.newconverts;
-      held = d.held;
-      heldaxes = d.heldaxes;
-      flags = d.flags;
-      head = d.head;
-      waiting = d.waiting;
-    }
+head_marks d connected renamed = record d { connected = connected; renamed = renamed }
 
 -- what is down
 abbrev pub head_down : Head → List ℕ → List ℕ → List ℕ → Head
-head_down d down held heldaxes =
-    record {
-      pressed = d.pressed;
-      released = d.released;
-      reversed = d.reversed;
-      filters = d.filters;
-      updates = d.updates;
-      counter = d.counter;
-      down = down;
-      pads = d.pads;
-      counts = d.counts;
-      connected = d.connected;
-      hats = d.hats;
-      converts = d.converts;
-      renamed = d.renamed;
-      newhats = d.newhats;
-      newconverts = d.newconverts;
-      held = held;
-      heldaxes = heldaxes;
-      flags = d.flags;
-      head = d.head;
-      waiting = d.waiting;
-    }
+head_down d down held heldaxes = record d { down = down; held = held; heldaxes = heldaxes }
 
 -- the deadzone flags
 abbrev pub head_flags : Head → List Bool → Head
-head_flags d flags =
-    record {
-      pressed = d.pressed;
-      released = d.released;
-      reversed = d.reversed;
-      filters = d.filters;
-      updates = d.updates;
-      counter = d.counter;
-      down = d.down;
-      pads = d.pads;
-      counts = d.counts;
-      connected = d.connected;
-      hats = d.hats;
-      converts = d.converts;
-      renamed = d.renamed;
-      newhats = d.newhats;
-      newconverts = d.newconverts;
-      held = d.held;
-      heldaxes = d.heldaxes;
-      flags = flags;
-      head = d.head;
-      waiting = d.waiting;
-    }
+head_flags d flags = record d { flags = flags }
 
 -- the ring's front, and how many wait
 abbrev pub head_queue : Head → ℕ → ℕ → Head
-head_queue d head waiting =
-    record {
-      pressed = d.pressed;
-      released = d.released;
-      reversed = d.reversed;
-      filters = d.filters;
-      updates = d.updates;
-      counter = d.counter;
-      down = d.down;
-      pads = d.pads;
-      counts = d.counts;
-      connected = d.connected;
-      hats = d.hats;
-      converts = d.converts;
-      renamed = d.renamed;
-      newhats = d.newhats;
-      newconverts = d.newconverts;
-      held = d.held;
-      heldaxes = d.heldaxes;
-      flags = d.flags;
-      head = head;
-      waiting = waiting;
-    }
+head_queue d head waiting = record d { head = head; waiting = waiting }

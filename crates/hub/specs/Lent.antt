@@ -1,19 +1,18 @@
 -- The law book's hub that a head and the lent arrays stand for.
-use Rattle.std.specs.Prelude.{ℕ, Bool, List, Float}
+use Rattle.std.specs.Prelude.{ℕ, Bool, List, Float, Result}
 use Rattle.rules.specs.declared.Hub.{Hub}
 use Rattle.rules.specs.declared.Element.{Element}
 use Rattle.rules.specs.declared.ButtonData.{ButtonData}
 use Rattle.rules.specs.declared.AxisData.{AxisData}
 use Rattle.rules.specs.declared.Slot.{Slot}
-use Rattle.rules.specs.declared.Answer.{Answer}
 use Rattle.rules.specs.declared.Answered.{Answered}
 use Rattle.rules.specs.declared.Registered.{Registered}
 use Rattle.rules.specs.Pump.{Run}
 use Rattle.columns.specs.Columns.{elements_of, buttons_of, axes_of, slots_of}
 use Rattle.hub.specs.declared.Head.{Head}
 use Rattle.hub.specs.declared.PumpedHead.{PumpedHead}
-use Rattle.hub.specs.declared.AnsweredHead.{AnsweredHead}
 use Rattle.hub.specs.declared.RegisteredHead.{RegisteredHead}
+use Rattle.rules.specs.declared.Refusal.{Refusal}
 
 -- ---- the arrays
 
@@ -97,7 +96,7 @@ hub_of d s t =
 abbrev pub pumped : PumpedHead → Listed → Columns → List ℕ → Run
 pumped r s t out = record { pumped = record { hub = hub_of r.head s t; answer = r.answer }; out = out }
 
-abbrev pub answered : Head → Listed → Columns → Answer → Answered
+abbrev pub answered : Head → Listed → Columns → Result (Unit {0}) Refusal → Answered
 answered d s t a = record { hub = hub_of d s t; answer = a }
 
 abbrev pub registered : RegisteredHead → Listed → Columns → Registered

@@ -1,3 +1,4 @@
 pub mod Heads
 pub mod Lent
 pub mod OneToOne
+pub mod Holding

@@ -1,6 +1,6 @@
 -- `hub_of` is one-to-one over the head and all the arrays, for arrays as long as they are: the law book's hub tells each of their cells. So a contract that
 -- gives the hub gives every lent element.
-use Rattle.std.specs.Prelude.{◌≡◌, refl, length}
+use Rattle.std.specs.Prelude.{◌≡◌, length}
 use Rattle.std.proofs.Common.{sym, ◌∙◌, ap}
 use Rattle.rules.specs.declared.Hub.{Hub}
 use Rattle.rules.specs.Names.{queue_room}

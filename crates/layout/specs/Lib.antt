@@ -3,3 +3,4 @@ pub mod Rows
 pub mod Renames
 pub mod Order
 pub mod Laid
+pub mod Laying

@@ -1,21 +1,29 @@
 -- Laws of laying a sheet out, one for each turn of the loop: what is laid and what is left to lay give the whole, place by place.
 use Prim.Native.Nat.{ℕ, zero, suc, ◌+◌, ◌-◌, ◌<◌, ◌≤◌}
-use Rattle.std.specs.Prelude.{Bool, true, false, ◌&&◌, ◌||◌, List, ◌∷◌, ◌++◌, ◌≡◌, ltb, length, take, set}
+use Rattle.std.specs.Prelude.{Bool, true, false, ◌&&◌, ◌||◌, List, [], ◌∷◌, ◌++◌, ◌≡◌, ltb, length, take, set}
 use Rattle.std.proofs.Common.{append-nil, sym, ◌∙◌, add-one, arith, take-suc-set, take_all, ltb-true}
 use Rattle.std.proofs.Math.Path.{refl}
 use Rattle.std.proofs.Math.Numerals.{sub-one}
 use Rattle.std.proofs.Math.Dec.{leb}
 use Rattle.std.proofs.Math.Seq.{append_snoc}
+use mir.Val.{bool_byte}
 use Rattle.rules.specs.declared.Row.{Row}
 use Rattle.rules.specs.Names.{places_per_pad, code_up}
 use Rattle.rules.specs.Sheets.{element_of}
 use Rattle.rules.specs.Places.{directions, element_next, direction_next, next_row, one_if, rows_from}
 
--- ---- bounds
+-- ---- a test as a number
+
+-- as the machine has it
+pub byte-is : (b : Bool) → bool_byte b ≡ one_if b
+byte-is true = refl
+byte-is false = refl
 
 pub one-if-small : (b : Bool) → one_if b ≤ 1
 one-if-small true = omega arith
 one-if-small false = omega arith
+
+-- ---- bounds
 
 inside : (m n : ℕ) (first rest : Bool) → ltb m n ≡ first → (first && rest) ≡ true → m < n
 inside m n true rest e both = ltb-true m n e
@@ -29,6 +37,16 @@ module _ (s : List ℕ) (n i d : ℕ) where
   pub direction-inside : direction_next s n i d ≡ true → d < directions
   unfolding direction_next
   direction-inside next = inside d directions (ltb d directions) (leb n i || leb (code_up + d) (element_of s i).code) refl next
+
+-- ---- rows laid
+
+-- after the k-th row is laid, what is laid and what is left give what they gave before
+pub laid_next : (rows rest : List Row) (row : Row) (k : ℕ) → k < length rows → take (k + 1) (set rows k row) ++ rest ≡ take k rows ++ (row ∷ rest)
+laid_next rows rest row k short = rw (add-one k, take-suc-set rows k row short) (append_snoc (take k rows) row rest)
+
+-- all are laid
+pub laid-all : (rows rest : List Row) (k : ℕ) → length rows ≤ k → rest ≡ [] → rows ≡ take k rows ++ rest
+laid-all rows rest k past none = rw (none, take_all k rows past) (sym (append-nil rows))
 
 -- ---- a place more
 
@@ -45,14 +63,13 @@ module _ (s : List ℕ) (n i d last : ℕ) where
   rows_next (suc left) some = rw sub-one
 
   -- after the k-th place is laid, what is laid and what is left give what they gave before
-  pub laid_next : (rows : List Row) (k : ℕ) → k < places_per_pad → length rows ≡ places_per_pad
+  laid_place : (rows : List Row) (k : ℕ) → k < places_per_pad → length rows ≡ places_per_pad
       → take (k + 1) (set rows k row) ++ rest (places_per_pad - (k + 1)) ≡ take k rows ++ rows_from (places_per_pad - k) s n i d last
-  laid_next rows k short long =
+  laid_place rows k short long =
       let inside-rows : k < length rows = omega arith in
       let some : 0 < places_per_pad - k = omega arith in
       let less : places_per_pad - k - 1 ≡ places_per_pad - (k + 1) = omega arith in
-      rw (rows_next (places_per_pad - k) some, less, add-one k, take-suc-set rows k row inside-rows)
-      (append_snoc (take k rows) row (rest (places_per_pad - suc k)))
+      rw (rows_next (places_per_pad - k) some, less) (laid_next rows (rest (places_per_pad - (k + 1))) row k inside-rows)
 
   -- the same of the row, the numbers of elements and of directions that the code has
   pub laid-step : (r : Row) (element direction : ℕ) (rows whole : List Row) (k : ℕ) → r ≡ row → element ≡ one_if (element_next s n i d)
@@ -60,13 +77,4 @@ module _ (s : List ℕ) (n i d last : ℕ) where
       → take k rows ++ rows_from (places_per_pad - k) s n i d last ≡ whole
       → take (k + 1) (set rows k r) ++ rows_from (places_per_pad - (k + 1)) s n (i + element) (d + direction) r.code ≡ whole
   laid-step r element direction rows whole k is_row is-element is-direction short long before =
-      rw (is_row, is-element, is-direction) (laid_next rows k short long ∙ before)
-
--- all are laid
-pub laid-all : (s : List ℕ) (n i d last : ℕ) (rows : List Row) (k : ℕ) → places_per_pad ≤ k → length rows ≡ places_per_pad
-    → rows ≡ take k rows ++ rows_from (places_per_pad - k) s n i d last
-unfolding rows_from
-laid-all s n i d last rows k past long =
-    let none : places_per_pad - k ≡ 0 = omega arith in
-    let all : length rows ≤ k = omega arith in
-    rw (none, take_all k rows all) (sym (append-nil rows))
+      rw (is_row, is-element, is-direction) (laid_place rows k short long ∙ before)

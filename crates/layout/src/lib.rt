@@ -2,18 +2,19 @@
 // not list; places that are left over repeat the last code, so that codes never fall.
 #![tactic(auto)]
 
-ghost use Rattle.std.specs.Prelude.{◌≡◌, true, cond, not, ◌+◌, ◌*◌, ◌≤◌, eqb, length, get_or};
+ghost use Rattle.std.specs.Prelude.{◌≡◌, true, cond, not, ◌+◌, ◌*◌, ◌<◌, ◌≤◌, eqb, length, get_or};
 ghost use Rattle.rules.specs.Sheets.{element_of, count_of, axis_fits, element_fits, sheet_refusal, sheet_opening, element_size};
 ghost use Rattle.rules.specs.Places.{no_element, axis_element, listed_row, unlisted_row, element_next, direction_next, next_row, one_if, rows_of};
 ghost use Rattle.rules.specs.Names.{no_name, places_per_pad, nowhere};
 ghost use Rattle.rules.specs.Calls.{renames_after};
 ghost use Rattle.layout.specs.Good.{Good};
 ghost use Rattle.layout.specs.Laid.{LaidOut};
+ghost use Rattle.layout.specs.Laying.{Steps};
 
 use columns::{Marks, Values};
 use rules::{
-    COUNT_AT, ELEMENT_BUTTON, ELEMENT_SIZE, Element, NO_NAME, PLACES_PER_PAD, Row, SHEET_OPENING,
-    SheetElement,
+    COUNT_AT, ELEMENT_BUTTON, ELEMENT_SIZE, Element, NO_NAME, PADS, PLACES_PER_PAD, Row,
+    SHEET_OPENING, SheetElement,
 };
 
 const DIRECTIONS: u32 = 4;
@@ -26,13 +27,11 @@ fn axis_element(e: SheetElement) -> Element
     requires { axis_fits e ≡ true }
     ensures { result ≡ axis_element e }
 {
-    let min = e.min;
-    let max = e.max;
     Element {
-        low: scale::low_of(min),
-        range: scale::range_of(min, max),
-        odd: scale::odd_of(min, max),
-        threshold: scale::threshold_of(min, max, e.deadzone),
+        low: scale::low_of(e.min),
+        range: scale::range_of(e.min, e.max),
+        odd: scale::odd_of(e.min, e.max),
+        threshold: scale::threshold_of(e.min, e.max, e.deadzone),
     }
 }
 
@@ -49,26 +48,20 @@ fn no_element() -> Element
 }
 
 // A listed element's row.
-#[tactic(auto, unfolding(rules::specs::Places::listed_row))]
+#[tactic(auto, using(crate::proofs::Fits::fits), unfolding(rules::specs::Places::listed_row))]
 fn listed_row(e: SheetElement) -> Row
     requires { element_fits e ≡ true }
     ensures { result ≡ listed_row e }
 {
-    if e.kind == ELEMENT_BUTTON {
-        let none = no_element();
-        return Row {
-            code: e.code,
-            kind: e.kind,
-            name: e.name,
-            element: none,
-        };
-    }
-    let axis = axis_element(e);
+    let element = match e.kind {
+        ELEMENT_BUTTON => no_element(),
+        _ => axis_element(e),
+    };
     Row {
         code: e.code,
         kind: e.kind,
         name: e.name,
-        element: axis,
+        element,
     }
 }
 
@@ -76,12 +69,11 @@ fn listed_row(e: SheetElement) -> Row
 fn unlisted_row(code: u32) -> Row
     ensures { result ≡ unlisted_row code }
 {
-    let none = no_element();
     Row {
-        code: code,
+        code,
         kind: 0,
         name: NO_NAME,
-        element: none,
+        element: no_element(),
     }
 }
 
@@ -102,13 +94,7 @@ fn element_next(s: &[u8], n: u32, i: u32, d: u32) -> bool
     requires { length s.now ≡ sheet_opening + element_size * n }
     ensures { result ≡ element_next s.now n i d }
 {
-    if n <= i {
-        return false;
-    }
-    if DIRECTIONS <= d {
-        return true;
-    }
-    code_of(s, i) <= names::CODE_UP + d
+    i < n && (DIRECTIONS <= d || code_of(s, i) <= names::CODE_UP + d)
 }
 
 // Whether the next place's code is the d-th direction's, listed or not.
@@ -117,13 +103,7 @@ fn direction_next(s: &[u8], n: u32, i: u32, d: u32) -> bool
     requires { length s.now ≡ sheet_opening + element_size * n }
     ensures { result ≡ direction_next s.now n i d }
 {
-    if DIRECTIONS <= d {
-        return false;
-    }
-    if n <= i {
-        return true;
-    }
-    names::CODE_UP + d <= code_of(s, i)
+    d < DIRECTIONS && (n <= i || names::CODE_UP + d <= code_of(s, i))
 }
 
 // The next place's row: the element's, else the direction's, else the code before it once more.
@@ -133,50 +113,57 @@ fn next_row(s: &[u8], n: u32, i: u32, d: u32, last: u32) -> Row
     ensures { result ≡ next_row s.now n i d last }
 {
     if element_next(s, n, i, d) {
-        return listed_row(sheets::element(s, i as usize));
+        listed_row(sheets::element(s, i as usize))
+    } else if direction_next(s, n, i, d) {
+        unlisted_row(names::CODE_UP + d)
+    } else {
+        unlisted_row(last)
     }
-    if direction_next(s, n, i, d) {
-        return unlisted_row(names::CODE_UP + d);
-    }
-    unlisted_row(last)
 }
 
-fn one_if(b: bool) -> u32
-    ensures { result ≡ one_if b }
-{
-    if b { 1 } else { 0 }
+// So many of the elements and of the directions have their places, the last of them with this code.
+#[derive(Default, Drop)]
+struct Laying {
+    elements: u32,
+    directions: u32,
+    code: u32,
+}
+
+impl Laying {
+    // The next place's row.
+    fn next(&mut self, s: &[u8], n: u32) -> Row
+        requires { (Good s.now n) × (self.old.elements < places_per_pad) × (self.old.directions < places_per_pad) }
+        ensures { Steps s.now n self.old result self.new }
+    {
+        let row = next_row(s, n, self.elements, self.directions, self.code);
+        let element = element_next(s, n, self.elements, self.directions);
+        let direction = direction_next(s, n, self.elements, self.directions);
+        self.elements += u32::from(element);
+        self.directions += u32::from(direction);
+        self.code = row.code;
+        row
+    }
 }
 
 // ---- a pad's 52 places
 
 // The 52 rows of a good sheet: its elements in code order, the unlisted directions among them.
-#[tactic(auto, unfolding(rules::specs::Places::rows_of, rules::specs::Sheets::count_of))]
+#[tactic(auto, using(crate::specs::Good::good), unfolding(rules::specs::Sheets::count_of))]
 pub fn rows_of(s: &[u8]) -> [Row; 52]
     requires { sheet_refusal true s.now ≡ 0 }
     ensures { result ≡ rows_of s.now (count_of s.now) }
 {
     let n = s[COUNT_AT] as u32;
-    let none = unlisted_row(0);
-    let mut rows = [none; 52];
-    let mut i: u32 = 0;
-    let mut d: u32 = 0;
-    let mut last: u32 = 0;
-    let mut k: usize = 0;
-    while k < PLACES_PER_PAD {
-        let row = next_row(s, n, i, d, last);
-        let element = one_if(element_next(s, n, i, d));
-        let direction = one_if(direction_next(s, n, i, d));
-        rows[k] = row;
-        last = row.code;
-        i = i + element;
-        d = d + direction;
-        k = k + 1;
+    let mut laying = Laying::default();
+    let mut rows = [unlisted_row(0); 52];
+    for row in &mut rows {
+        *row = laying.next(s, n);
     }
     rows
 }
 
 // The same in place: the rows in the lent arrays, from `start` on.
-#[tactic(auto, unfolding(rules::specs::Places::rows_of, rules::specs::Sheets::count_of))]
+#[tactic(auto, using(crate::specs::Good::good), unfolding(rules::specs::Sheets::count_of))]
 pub fn lay_in(
     codes: &mut [u32; 208],
     kinds: &mut [u8; 208],
@@ -192,23 +179,14 @@ pub fn lay_in(
         codes.new kinds.new names.new values.new marks.new }
 {
     let n = s[COUNT_AT] as u32;
-    let mut i: u32 = 0;
-    let mut d: u32 = 0;
-    let mut last: u32 = 0;
-    let mut k: usize = 0;
-    while k < PLACES_PER_PAD {
-        let row = next_row(s, n, i, d, last);
-        let element = one_if(element_next(s, n, i, d));
-        let direction = one_if(direction_next(s, n, i, d));
+    let mut laying = Laying::default();
+    for k in 0..PLACES_PER_PAD {
+        let row = laying.next(s, n);
         let place = start + k;
         codes[place] = row.code;
         kinds[place] = row.kind;
         names[place] = row.name;
         columns::put_element(values, marks, place, row.element);
-        last = row.code;
-        i = i + element;
-        d = d + direction;
-        k = k + 1;
     }
 }
 
@@ -218,51 +196,25 @@ pub fn lay_in(
 fn name_given(kind: u8, list: &[u8], i: usize) -> u8
     ensures { result ≡ cond (eqb kind 0) no_name (get_or list.now i 0) }
 {
-    if kind == 0 {
-        return NO_NAME;
+    match kind {
+        0 => NO_NAME,
+        _ => list.get(i).copied().unwrap_or(0),
     }
-    if i < list.len() { list[i] } else { 0 }
 }
 
-fn listed(kind: u8) -> bool
-    ensures { result ≡ not (eqb kind 0) }
-{
-    kind != 0
-}
-
-// The length of a lent array is known once it is lent on as a slice. These calls leave no code.
-
-fn bytes_in(s: &[u8]) -> usize
-    ensures { result ≡ length s.now }
-{
-    s.len()
-}
-
-fn whole(s: &[u8; 208])
-    ensures { length s.now ≡ nowhere }
-{
-    bytes_in(s);
-}
-
-// The same in place.
+// The names of a pad's places by a rename list, in the lent array; for a pad that is none nothing changes.
 pub fn rename_in(renames: &mut [u8; 208], kinds: &[u8; 208], pad: u8, list: &[u8])
     ensures { renames.new
         ≡ renames_after renames.old kinds.now list.now places_per_pad (places_per_pad * pad) 0 }
 {
-    whole(renames);
-    let mut place = PLACES_PER_PAD * pad as usize;
+    if PADS <= pad {
+        return;
+    }
+    let start = PLACES_PER_PAD * pad as usize;
     let mut i: usize = 0;
-    let mut left = PLACES_PER_PAD;
-    while 0 < left {
-        if 208 <= place {
-            return;
-        }
+    for place in start..start + PLACES_PER_PAD {
         let kind = kinds[place];
-        let name = name_given(kind, list, i);
-        let element = one_if(listed(kind)) as usize;
-        renames[place] = name;
-        place = place + 1;
-        i = i + element;
-        left = left - 1;
+        renames[place] = name_given(kind, list, i);
+        i += usize::from(kind != 0);
     }
 }

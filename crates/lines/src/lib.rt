@@ -1,5 +1,6 @@
 // Lines of text on lent slices: each function appends to a buffer at a place and answers the next place. Where the buffer has no room it writes
 // nothing and answers the same place, so nothing is asked of a caller.
+// Buffer and place are no struct: `Appended`, by which the crates above speak of a text, names both.
 #![tactic(auto)]
 
 ghost use Rattle.std.specs.Prelude.{◌≡◌, ◌+◌, ◌*◌, ◌≤◌, ◌++◌, length, leb};
@@ -29,13 +30,7 @@ const STOPPED_ROOM: usize = 50;
 fn fits(len: usize, at: usize, room: usize) -> bool
     ensures { result ≡ leb (at + room) len }
 {
-    if len < at {
-        return false;
-    }
-    if len - at < room {
-        return false;
-    }
-    true
+    at <= len && room <= len - at
 }
 
 // Any bytes.
@@ -47,11 +42,7 @@ pub fn append(out: &mut [u8], at: usize, text: &[u8]) -> usize
     if !fits(out.len(), at, size) {
         return at;
     }
-    let mut i: usize = 0;
-    while i < size {
-        out[at + i] = text[i];
-        i += 1;
-    }
+    out[at..at + size].copy_from_slice(text);
     at + size
 }
 
@@ -88,28 +79,17 @@ pub fn hex(out: &mut [u8], at: usize, x: u32, end: u8) -> usize
 pub fn word(out: &mut [u8], at: usize, kind: u8) -> usize
     ensures { Appended (length (word_of kind)) (word_of kind) out.old at out.new result }
 {
-    if kind == EVENT_PRESSED {
-        return append(out, at, b"PRESSED ");
-    }
-    if kind == EVENT_RELEASED {
-        return append(out, at, b"RELEASED ");
-    }
-    if kind == EVENT_REPEATED {
-        return append(out, at, b"REPEATED ");
-    }
-    if kind == EVENT_CHANGED {
-        return append(out, at, b"CHANGED ");
-    }
-    if kind == EVENT_AXIS {
-        return append(out, at, b"AXIS ");
-    }
-    if kind == EVENT_CONNECTED {
-        return append(out, at, b"CONNECTED ");
-    }
-    if kind == EVENT_DISCONNECTED {
-        return append(out, at, b"DISCONNECTED ");
-    }
-    append(out, at, b"DROPPED ")
+    let word: &[u8] = match kind {
+        EVENT_PRESSED => b"PRESSED ",
+        EVENT_RELEASED => b"RELEASED ",
+        EVENT_REPEATED => b"REPEATED ",
+        EVENT_CHANGED => b"CHANGED ",
+        EVENT_AXIS => b"AXIS ",
+        EVENT_CONNECTED => b"CONNECTED ",
+        EVENT_DISCONNECTED => b"DISCONNECTED ",
+        _ => b"DROPPED ",
+    };
+    append(out, at, word)
 }
 
 // An event's line.
@@ -132,13 +112,7 @@ pub fn line(out: &mut [u8], at: usize, event: EventForm) -> usize
 pub fn labelled(out: &mut [u8], at: usize, label: &[u8], n: u64, end: u8) -> usize
     ensures { Appended (length label.now + 21) (label.now ++ number_text n end) out.old at out.new result }
 {
-    if out.len() < at {
-        return at;
-    }
-    if out.len() - at < label.len() {
-        return at;
-    }
-    if out.len() - at - label.len() < NUMBER_ROOM {
+    if !fits(out.len(), at, label.len() + NUMBER_ROOM) {
         return at;
     }
     let next = append(out, at, label);
@@ -176,11 +150,12 @@ pub fn fields(s: &[u8]) -> EventForm
 }
 
 // The lines of the first events of an out buffer, as many as `count` says and the buffer holds.
+// By index, which says in the invariant where an event stands; over `chunks_exact` the invariant would have to follow the iterator for it.
 #[tactic(auto, unfolding(crate::specs::Text::held_of, crate::specs::Text::lines_of))]
 pub fn lines(out: &mut [u8], at: usize, events: &[u8], count: usize) -> usize
     ensures { Appended (94 * held_of events.now count) (lines_of events.now (held_of events.now count)) out.old at out.new result }
 {
-    let held = choices::least(count, events.len() / EVENT_SIZE);
+    let held = count.min(events.len() / EVENT_SIZE);
     if out.len() < at {
         return at;
     }
@@ -188,12 +163,9 @@ pub fn lines(out: &mut [u8], at: usize, events: &[u8], count: usize) -> usize
         return at;
     }
     let mut next = at;
-    let mut i: usize = 0;
-    while i < held {
-        let from = EVENT_SIZE * i;
-        let event = fields(&events[from..]);
+    for i in 0..held {
+        let event = fields(&events[EVENT_SIZE * i..]);
         next = line(out, next, event);
-        i += 1;
     }
     next
 }

@@ -6,7 +6,7 @@ ghost use Rattle.std.specs.Prelude.{◌≡◌};
 ghost use Rattle.rules.specs.Names.{is_button, is_axis, names_button, names_axis, is_y, is_hat, partner_of, flag_of};
 ghost use Rattle.rules.specs.Names.{positive_name, negative_name, positive_code, negative_code, to_nec};
 
-// ---- names that a rule speaks of
+// ---- names that a rule speaks of: numbers, since sheets, lists and queries may give any byte, and the definitions of Names.antt speak of the number
 
 pub const UNKNOWN_BUTTON: u8 = 0;
 
@@ -83,7 +83,7 @@ pub fn names_axis(name: u8) -> bool
 pub fn is_y(name: u8) -> bool
     ensures { result ≡ is_y name }
 {
-    name == LEFT_STICK_Y || (name == RIGHT_STICK_Y || name == DPAD_Y)
+    matches!(name, LEFT_STICK_Y | RIGHT_STICK_Y | DPAD_Y)
 }
 
 // A hat's axis.
@@ -91,7 +91,7 @@ pub fn is_y(name: u8) -> bool
 pub fn is_hat(name: u8) -> bool
     ensures { result ≡ is_hat name }
 {
-    name == DPAD_X || name == DPAD_Y
+    matches!(name, DPAD_X | DPAD_Y)
 }
 
 // ---- axes in pairs
@@ -101,25 +101,15 @@ pub fn is_hat(name: u8) -> bool
 pub fn partner_of(name: u8) -> u8
     ensures { result ≡ partner_of name }
 {
-    if name == LEFT_STICK_X {
-        return LEFT_STICK_Y;
+    match name {
+        LEFT_STICK_X => LEFT_STICK_Y,
+        LEFT_STICK_Y => LEFT_STICK_X,
+        RIGHT_STICK_X => RIGHT_STICK_Y,
+        RIGHT_STICK_Y => RIGHT_STICK_X,
+        DPAD_X => DPAD_Y,
+        DPAD_Y => DPAD_X,
+        _ => 0,
     }
-    if name == LEFT_STICK_Y {
-        return LEFT_STICK_X;
-    }
-    if name == RIGHT_STICK_X {
-        return RIGHT_STICK_Y;
-    }
-    if name == RIGHT_STICK_Y {
-        return RIGHT_STICK_X;
-    }
-    if name == DPAD_X {
-        return DPAD_Y;
-    }
-    if name == DPAD_Y {
-        return DPAD_X;
-    }
-    0
 }
 
 // Which of a pad's six deadzone flags is the axis's (`deadzone_nonzero_axis_idx`); 6 for none.
@@ -127,25 +117,15 @@ pub fn partner_of(name: u8) -> u8
 pub fn flag_of(name: u8) -> u8
     ensures { result ≡ flag_of name }
 {
-    if name == DPAD_X {
-        return 0;
+    match name {
+        DPAD_X => 0,
+        DPAD_Y => 1,
+        LEFT_STICK_X => 2,
+        LEFT_STICK_Y => 3,
+        RIGHT_STICK_X => 4,
+        RIGHT_STICK_Y => 5,
+        _ => 6,
     }
-    if name == DPAD_Y {
-        return 1;
-    }
-    if name == LEFT_STICK_X {
-        return 2;
-    }
-    if name == LEFT_STICK_Y {
-        return 3;
-    }
-    if name == RIGHT_STICK_X {
-        return 4;
-    }
-    if name == RIGHT_STICK_Y {
-        return 5;
-    }
-    6
 }
 
 // ---- the two directions of a hat's axis
@@ -196,6 +176,5 @@ const NECS: [u32; 20] = [
 pub fn to_nec(name: u8) -> u32
     ensures { result ≡ to_nec name }
 {
-    let at = name as usize;
-    if at < 20 { NECS[at] } else { 0x00010000 }
+    NECS.get(usize::from(name)).copied().unwrap_or(0x00010000)
 }

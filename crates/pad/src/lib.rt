@@ -8,19 +8,18 @@ ghost use Rattle.rules.specs.Zones.{middle_zone};
 ghost use Rattle.rules.specs.Places.{code_named, direction_named, converts_of, cleared_of};
 ghost use Rattle.pad.specs.Found.{Placed, Named, Halved, Sought, Scanned, Early};
 
-use rules::{MIDDLE_ZONE, NO_NAME, NOWHERE, PADS, PLACES_PER_PAD};
-
-const ALL_HATS: u8 = 15;
+use rules::{LAST_HATS, MIDDLE_ZONE, NO_NAME, NOWHERE, PADS, PLACES_PER_PAD};
 
 // How many places of a pad are looked at together for a name.
 const EARLY: usize = 16;
 
 // ---- the place of a code
 
-// The halving search of the law book, written out: where the number of places is known, so is how far the middle lies from their start. An even number
-// has one place fewer behind the middle than before it; of an odd number, either half is as long.
+// The halving search of the law book, written out and no loop over a number of places: where the number is known, so is how far the middle lies from their
+// start. An even number has one place fewer behind the middle than before it; of an odd number, either half is as long.
 
 // Of `half` places, a middle and `half` places: where the half starts in which the search goes on.
+#[tactic(auto, using(crate::proofs::Halving::halved))]
 fn half_of(codes: &[u32; 208], start: usize, half: usize, code: u32) -> usize
     requires { (half < places_per_pad / 2) × (start + (half + half + 1) ≤ nowhere) }
     ensures { Halved codes.now start half code result }
@@ -38,9 +37,10 @@ fn seek_two(codes: &[u32; 208], start: usize, code: u32) -> usize
     ensures { Sought codes.now start 2 code result }
 {
     if codes[start + 1] < code {
-        return start + 2;
+        start + 2
+    } else {
+        half_of(codes, start, 0, code)
     }
-    half_of(codes, start, 0, code)
 }
 
 fn seek_six(codes: &[u32; 208], start: usize, code: u32) -> usize
@@ -48,10 +48,11 @@ fn seek_six(codes: &[u32; 208], start: usize, code: u32) -> usize
     ensures { Sought codes.now start 6 code result }
 {
     if codes[start + 3] < code {
-        return seek_two(codes, start + 4, code);
+        seek_two(codes, start + 4, code)
+    } else {
+        let one = half_of(codes, start, 1, code);
+        half_of(codes, one, 0, code)
     }
-    let one = half_of(codes, start, 1, code);
-    half_of(codes, one, 0, code)
 }
 
 fn seek_twelve(codes: &[u32; 208], start: usize, code: u32) -> usize
@@ -60,9 +61,10 @@ fn seek_twelve(codes: &[u32; 208], start: usize, code: u32) -> usize
 {
     if codes[start + 6] < code {
         let two = half_of(codes, start + 7, 2, code);
-        return seek_two(codes, two, code);
+        seek_two(codes, two, code)
+    } else {
+        seek_six(codes, start, code)
     }
-    seek_six(codes, start, code)
 }
 
 // On codes that do not fall, the first of a pad's 52 places whose code is not below the one asked for.
@@ -72,13 +74,13 @@ fn seek(codes: &[u32; 208], start: usize, code: u32) -> usize
 {
     if codes[start + 26] < code {
         let twelve = half_of(codes, start + 27, 12, code);
-        return seek_twelve(codes, twelve, code);
+        seek_twelve(codes, twelve, code)
+    } else if codes[start + 13] < code {
+        seek_twelve(codes, start + 14, code)
+    } else {
+        let six = half_of(codes, start, 6, code);
+        seek_six(codes, six, code)
     }
-    if codes[start + 13] < code {
-        return seek_twelve(codes, start + 14, code);
-    }
-    let six = half_of(codes, start, 6, code);
-    seek_six(codes, six, code)
 }
 
 // The place of a code: one of the pad's that has it, or `NOWHERE`.
@@ -90,10 +92,11 @@ pub fn place_of(codes: &[u32; 208], pad: u8, code: u32) -> usize
     }
     let start = PLACES_PER_PAD * pad as usize;
     let place = seek(codes, start, code);
-    if start + PLACES_PER_PAD <= place {
-        return NOWHERE;
+    if place < start + PLACES_PER_PAD && codes[place] == code {
+        place
+    } else {
+        NOWHERE
     }
-    if codes[place] == code { place } else { NOWHERE }
 }
 
 // ---- the place of a name
@@ -103,14 +106,10 @@ fn scan(names: &[u8; 208], start: usize, n: usize, name: u8) -> usize
     requires { start + n ≤ nowhere }
     ensures { Scanned names.now start n name result }
 {
-    let mut place = start;
-    let mut left = n;
-    while 0 < left {
+    for place in start..start + n {
         if names[place] == name {
             return place;
         }
-        place = place + 1;
-        left = left - 1;
     }
     NOWHERE
 }
@@ -121,10 +120,8 @@ fn stands_early(names: &[u8; 208], start: usize, name: u8) -> bool
     ensures { Early names.now start name result }
 {
     let mut found = false;
-    let mut i: usize = 0;
-    while i < EARLY {
-        found = found | (names[start + i] == name);
-        i = i + 1;
+    for i in 0..EARLY {
+        found |= names[start + i] == name;
     }
     found
 }
@@ -139,96 +136,88 @@ pub fn named(names: &[u8; 208], pad: u8, name: u8) -> usize
     }
     let start = PLACES_PER_PAD * pad as usize;
     if stands_early(names, start, name) {
-        return scan(names, start, PLACES_PER_PAD, name);
+        scan(names, start, PLACES_PER_PAD, name)
+    } else {
+        scan(names, start + EARLY, PLACES_PER_PAD - EARLY, name)
     }
-    scan(names, start + EARLY, PLACES_PER_PAD - EARLY, name)
 }
 
 // ---- columns read at any index
 
-// Columns are arrays of 208, 24 or 4. Each is lent on as a slice to one of these, so that a column of any length is read and marked by one proof.
+// Columns are arrays of 208, 24, 8 or 4, each asked for by a name that says which it is. Each is lent on as a slice to one of these two, so that a column of any kind and length is read and stored to by one
+// proof.
 
-fn bool_in(marks: &[bool], at: usize) -> bool
-    ensures { result ≡ get_or marks.now at false }
+// What stands at an index of a column; `none` past the end.
+pub fn read<T: Copy>(column: &[T], at: usize, none: T) -> T
+    ensures { result ≡ get_or column.now at none }
 {
-    if at < marks.len() { marks[at] } else { false }
-}
-
-fn byte_in(bytes: &[u8], at: usize, none: u8) -> u8
-    ensures { result ≡ get_or bytes.now at none }
-{
-    if at < bytes.len() { bytes[at] } else { none }
-}
-
-fn code_in(codes: &[u32], at: usize) -> u32
-    ensures { result ≡ get_or codes.now at 0 }
-{
-    if at < codes.len() { codes[at] } else { 0 }
+    column.get(at).copied().unwrap_or(none)
 }
 
 // The mark of a place; false past the end.
 pub fn bool_at(marks: &[bool; 208], place: usize) -> bool
     ensures { result ≡ get_or marks.now place false }
 {
-    bool_in(marks, place)
+    read(marks, place, false)
 }
 
 // The kind of the element at a place; 0 where the sheet lists none.
 pub fn kind_at(kinds: &[u8; 208], place: usize) -> u8
     ensures { result ≡ get_or kinds.now place 0 }
 {
-    byte_in(kinds, place, 0)
+    read(kinds, place, 0)
 }
 
 // The name of a place; `NO_NAME` where it has none.
 pub fn name_at(names: &[u8; 208], place: usize) -> u8
     ensures { result ≡ get_or names.now place no_name }
 {
-    byte_in(names, place, NO_NAME)
+    read(names, place, NO_NAME)
 }
 
 // The code of a place; 0 past the end.
 pub fn code_at(codes: &[u32; 208], place: usize) -> u32
     ensures { result ≡ get_or codes.now place 0 }
 {
-    code_in(codes, place)
+    read(codes, place, 0)
 }
 
 // A deadzone flag; false past the end.
 pub fn flag_at(flags: &[bool; 24], at: usize) -> bool
     ensures { result ≡ get_or flags.now at false }
 {
-    bool_in(flags, at)
+    read(flags, at, false)
 }
 
 // The zone of a hat's last converted value; the middle past the end.
 pub fn zone_at(zones: &[u8; 8], at: usize) -> u8
     ensures { result ≡ get_or zones.now at middle_zone }
 {
-    byte_in(zones, at, MIDDLE_ZONE)
+    read(zones, at, MIDDLE_ZONE)
 }
 
 // A pad's mark; false for a pad that is none.
 pub fn pad_bool(marks: &[bool; 4], pad: u8) -> bool
     ensures { result ≡ get_or marks.now pad false }
 {
-    bool_in(marks, pad as usize)
+    read(marks, pad as usize, false)
 }
 
 // A pad's number; 0 for a pad that is none.
 pub fn pad_number(numbers: &[u8; 4], pad: u8) -> u8
     ensures { result ≡ get_or numbers.now pad 0 }
 {
-    byte_in(numbers, pad as usize, 0)
+    read(numbers, pad as usize, 0)
 }
 
 // ---- columns marked at any index: past the end nothing happens
 
-fn mark_in(marks: &mut [bool], at: usize, v: bool)
-    ensures { marks.new ≡ set marks.old at v }
+// Sets what stands at an index of a column.
+pub fn store<T: Copy>(column: &mut [T], at: usize, value: T)
+    ensures { column.new ≡ set column.old at value }
 {
-    if at < marks.len() {
-        marks[at] = v;
+    if at < column.len() {
+        column[at] = value;
     }
 }
 
@@ -236,58 +225,44 @@ fn mark_in(marks: &mut [bool], at: usize, v: bool)
 pub fn mark(marks: &mut [bool; 208], place: usize, v: bool)
     ensures { marks.new ≡ set marks.old place v }
 {
-    mark_in(marks, place, v)
+    store(marks, place, v)
 }
 
 // Sets a deadzone flag; past the end nothing changes.
 pub fn mark_flag(flags: &mut [bool; 24], at: usize, v: bool)
     ensures { flags.new ≡ set flags.old at v }
 {
-    mark_in(flags, at, v)
+    store(flags, at, v)
 }
 
 // Sets a pad's mark; past the end nothing changes.
 pub fn mark_pad(marks: &mut [bool; 4], pad: u8, v: bool)
     ensures { marks.new ≡ set marks.old pad v }
 {
-    mark_in(marks, pad as usize, v)
-}
-
-fn set_in(numbers: &mut [u8], at: usize, v: u8)
-    ensures { numbers.new ≡ set numbers.old at v }
-{
-    if at < numbers.len() {
-        numbers[at] = v;
-    }
+    store(marks, pad as usize, v)
 }
 
 // Sets the zone of a hat's last converted value; past the end nothing changes.
 pub fn set_zone(zones: &mut [u8; 8], at: usize, v: u8)
     ensures { zones.new ≡ set zones.old at v }
 {
-    set_in(zones, at, v)
+    store(zones, at, v)
 }
 
 // Sets a pad's number; past the end nothing changes.
 pub fn set_pad(numbers: &mut [u8; 4], pad: u8, v: u8)
     ensures { numbers.new ≡ set numbers.old pad v }
 {
-    set_in(numbers, pad as usize, v)
+    store(numbers, pad as usize, v)
 }
 
 // The n marks from start on are taken off, as far as there are any.
 fn clear_in(marks: &mut [bool], start: usize, n: usize)
     ensures { marks.new ≡ cleared_of marks.old start n }
 {
-    let mut at = start;
-    let mut left = n;
-    while 0 < left {
-        if marks.len() <= at {
-            return;
-        }
+    let end = marks.len().min(start.saturating_add(n));
+    for at in start..end {
         marks[at] = false;
-        at = at + 1;
-        left = left - 1;
     }
 }
 
@@ -319,31 +294,20 @@ fn code_named<'a>(codes: &'a [u32; 208], names: &'a [u8; 208], pad: u8, code: u3
 fn direction_named<'a>(codes: &'a [u32; 208], names: &'a [u8; 208], pad: u8) -> bool
     ensures { result ≡ direction_named codes.now names.now pad }
 {
-    if code_named(codes, names, pad, names::CODE_RIGHT) {
-        return true;
-    }
-    if code_named(codes, names, pad, names::CODE_LEFT) {
-        return true;
-    }
-    if code_named(codes, names, pad, names::CODE_DOWN) {
-        return true;
-    }
-    code_named(codes, names, pad, names::CODE_UP)
+    code_named(codes, names, pad, names::CODE_RIGHT)
+        || code_named(codes, names, pad, names::CODE_LEFT)
+        || code_named(codes, names, pad, names::CODE_DOWN)
+        || code_named(codes, names, pad, names::CODE_UP)
 }
 
 // Whether a pad's hats turn into directions: hats say all four, or say none and no direction is named.
-#[tactic(auto, unfolding(rules::specs::Places::converts_of))]
+#[tactic(auto, using(std::proofs::Common::ne_eqb), unfolding(rules::specs::Places::converts_of))]
 pub fn converts<'a>(hats: u8, codes: &'a [u32; 208], names: &'a [u8; 208], pad: u8) -> bool
     ensures { result ≡ converts_of hats codes.now names.now pad }
 {
-    if hats == ALL_HATS {
-        return true;
+    match hats {
+        LAST_HATS => true,
+        0 => !direction_named(codes, names, pad) && named(names, pad, names::DPAD_RIGHT) == NOWHERE,
+        _ => false,
     }
-    if hats != 0 {
-        return false;
-    }
-    if direction_named(codes, names, pad) {
-        return false;
-    }
-    named(names, pad, names::DPAD_RIGHT) == NOWHERE
 }

@@ -1,6 +1,6 @@
 -- padlog's text always ends with a last line: eight calls are enough for every input. A batch over 16,384 bytes is refused at once; any other has at most 780
 -- records, which give at most 3,120 events and steps in all. So no call spends its allowance, and each that fills the buffer has written 744 events.
-use Rattle.std.specs.Prelude.{ℕ, zero, suc, ◌+◌, ◌-◌, ◌*◌, ◌/◌, ◌<◌, ◌≤◌, ◌≡◌, refl, Bool, true, false, cond, List, [], ◌⊎◌, length, take, drop, eqb, ltb}
+use Rattle.std.specs.Prelude.{ℕ, zero, suc, ◌+◌, ◌-◌, ◌*◌, ◌/◌, ◌<◌, ◌≤◌, ◌≡◌, refl, Bool, true, false, cond, List, [], ◌⊎◌, length, take, drop, eqb, ltb, Err, Ok, Result}
 use Rattle.std.proofs.Common.{◌∙◌, inl, inr, arith, eqb-true, lt-ltb, ltb-true, ltb-false}
 use Rattle.std.specs.Float.Ieee as Ieee
 use Rattle.std.specs.Float.{binary32}
@@ -9,8 +9,6 @@ use Rattle.rules.specs.declared.Hub.{Hub}
 use Rattle.rules.specs.declared.RawRecord.{RawRecord}
 use Rattle.rules.specs.declared.PumpAnswer.{PumpAnswer}
 use Rattle.rules.specs.declared.PumpAnswer.TheVariants as pump_answer
-use Rattle.rules.specs.declared.RegisterAnswer.{RegisterAnswer}
-use Rattle.rules.specs.declared.RegisterAnswer.TheVariants as register_answer
 use Rattle.rules.specs.Names.{buffer_limit}
 use Rattle.rules.specs.Forms.{record_size, event_size}
 use Rattle.rules.specs.Refusals.{thresholds_refusal, pump_refusal}
@@ -27,6 +25,7 @@ use Rattle.padlog.specs.declared.Tally.{Tally}
 use Rattle.padlog.specs.Log.{sheet_end, goes_on, drained, tally_of, last_line, allowance, pump_all, tallied, printed, rounds_of, rounds, desk_hub, log_by, log_of}
 use Rattle.padlog.specs.Bounds.{pump-bounded}
 use Rattle.padlog.specs.Ends.{LastLine, drained-line, stopped-line, sheet-line, Ends, last, lines}
+use Rattle.rules.specs.declared.Refusal.{Refusal}
 
 -- ---- a call
 
@@ -112,10 +111,10 @@ batch-ends h batch out rs w t size false e =
     let short = ltb-false buffer_limit (length batch) e in
     rounds-end rounds h batch 0 out 0 rs w 0 t size (omega arith) (omega arith) (omega arith)
 
-log-by : (a : RegisterAnswer) (h : Hub) (batch out : List ℕ) (rs : List RawRecord) → Played h rs → Still h 0 → length out ≡ buffer_limit
+log-by : (a : Result ℕ Refusal) (h : Hub) (batch out : List ℕ) (rs : List RawRecord) → Played h rs → Still h 0 → length out ≡ buffer_limit
     → Ends (log_by a h batch out)
-log-by (register_answer.Pad p) h batch out rs w t size = batch-ends h batch out rs w t size (ltb buffer_limit (length batch)) refl
-log-by (register_answer.Refused number) h batch out rs w t size = last (sheet-line number)
+log-by (Ok p) h batch out rs w t size = batch-ends h batch out rs w t size (ltb buffer_limit (length batch)) refl
+log-by (Err e) h batch out rs w t size = last (sheet-line e.number)
 
 -- the thresholds are accepted, and nothing waits
 thresholds : thresholds_refusal (of_bits binary32 0x3f400000) (of_bits binary32 0x3f000000) ≡ 0

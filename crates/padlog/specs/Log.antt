@@ -1,11 +1,9 @@
 -- What padlog prints for its input: one sheet, then one batch. Definitions only.
-use Rattle.std.specs.Prelude.{ℕ, zero, suc, ◌+◌, ◌≤◌, min, ◌≡◌, true, false, cond, List, [], ◌++◌, length, take, drop, eqb}
+use Rattle.std.specs.Prelude.{ℕ, zero, suc, ◌+◌, ◌≤◌, min, ◌≡◌, true, false, cond, List, [], ◌++◌, length, take, drop, eqb, Err, Ok, Result}
 use Rattle.std.specs.Float.{binary32}
 use Rattle.std.specs.Float.Ieee.{of_bits}
 use Rattle.rules.specs.declared.Hub.{Hub}
 use Rattle.rules.specs.declared.Registered.{Registered}
-use Rattle.rules.specs.declared.RegisterAnswer.{RegisterAnswer}
-use Rattle.rules.specs.declared.RegisterAnswer.TheVariants as register_answer
 use Rattle.rules.specs.declared.PumpAnswer.{PumpAnswer}
 use Rattle.rules.specs.declared.PumpAnswer.TheVariants as pump_answer
 use Rattle.rules.specs.Forms.{field_of}
@@ -13,6 +11,7 @@ use Rattle.rules.specs.Calls.{new_of, register_of}
 use Rattle.rules.specs.Pump.{Run, pump_of}
 use Rattle.lines.specs.Text.{lines_of, drained_line, stopped_line, sheet_line}
 use Rattle.padlog.specs.declared.Tally.{Tally}
+use Rattle.rules.specs.declared.Refusal.{Refusal}
 
 -- ---- the input
 
@@ -76,9 +75,9 @@ rounds = 8
 unfoldable pub desk_hub : Hub
 desk_hub = (new_of (of_bits binary32 0x3f400000) (of_bits binary32 0x3f000000) false true true).hub
 
-abbrev pub log_by : RegisterAnswer → Hub → List ℕ → List ℕ → List ℕ
-log_by (register_answer.Pad p) h batch out = rounds_of rounds h batch 0 out 0
-log_by (register_answer.Refused number) h batch out = sheet_line number
+abbrev pub log_by : Result ℕ Refusal → Hub → List ℕ → List ℕ → List ℕ
+log_by (Ok p) h batch out = rounds_of rounds h batch 0 out 0
+log_by (Err e) h batch out = sheet_line e.number
 
 abbrev pub log_with : Registered → List ℕ → List ℕ → List ℕ
 log_with r batch out = log_by r.answer r.hub batch out

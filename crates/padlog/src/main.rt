@@ -3,14 +3,14 @@
 #![tactic(auto)]
 
 ghost use Rattle.std.specs.Prelude.{◌≡◌, ◌+◌, ◌^◌, ◌≤◌, ◌<◌, length, IfOk};
-ghost use Rattle.hub.specs.Lent.{listed, columns, hub_of};
+ghost use Rattle.hub.specs.Lent.{hub_of};
+ghost use Rattle.hub.specs.Holding.{listed_now, columns_now};
 ghost use Rattle.lines.specs.Appending.{Appended};
 ghost use Rattle.padlog.specs.Log.{Told, sheet_end, tally_of, last_line, rounds_of, rounds, log_of};
 
-use columns::{Marks, QueueBytes, QueueCodes, Times, Values};
-use hub::Head;
+use hub::{Head, Listing, Store};
 use lines::NEWLINE;
-use rules::{PumpAnswer, RegisterAnswer};
+use rules::PumpAnswer;
 use std::io;
 use std::io::Read;
 
@@ -25,7 +25,7 @@ const DRAINED: u8 = 1;
 
 const STOPPED: u8 = 2;
 
-// What a pump call answered, in numbers.
+// What a pump call answered. How it ends is a number as `tally_of` has it (`specs/Log.antt`), which the theorems above it rest on.
 #[derive(Clone, Copy)]
 pub struct Tally {
     pub ends: u8,
@@ -46,14 +46,7 @@ fn tally_of(answer: PumpAnswer) -> Tally
             events,
             steps,
         },
-        PumpAnswer::Full(place, events, steps) => Tally {
-            ends: GOES_ON,
-            refusal: 0,
-            place,
-            events,
-            steps,
-        },
-        PumpAnswer::Paused(place, events, steps) => Tally {
+        PumpAnswer::Full(place, events, steps) | PumpAnswer::Paused(place, events, steps) => Tally {
             ends: GOES_ON,
             refusal: 0,
             place,
@@ -79,8 +72,8 @@ fn sheet_end(input: &[u8]) -> usize
     if len < 2 {
         return len;
     }
-    let end = wire::read2(input, 0) as usize + 2;
-    if end < len { end } else { len }
+    let end = usize::from(wire::read2(input, 0)) + 2;
+    end.min(len)
 }
 
 // "The last line is DRAINED and all steps, or STOPPED, refusal and place"
@@ -90,57 +83,40 @@ fn last(text: &mut [u8], at: usize, t: Tally, steps: usize) -> usize
     ensures { Appended 50 (last_line t steps) text.old at text.new result }
 {
     if t.ends == DRAINED {
-        return lines::labelled(text, at, b"DRAINED ", (steps + t.steps) as u64, NEWLINE);
+        lines::labelled(text, at, b"DRAINED ", (steps + t.steps) as u64, NEWLINE)
+    } else {
+        lines::stopped(text, at, t.refusal, t.place as u64)
     }
-    lines::stopped(text, at, t.refusal, t.place as u64)
 }
 
 // The batch is pumped until it is drained or refused, and each call's events are printed behind those before.
 #[tactic(auto, unfolding(crate::specs::Log::pump_all))]
-fn pump_all<'s>(
+fn pump_all(
     head: Head,
-    codes: &'s [u32; 208],
-    kinds: &'s [u8; 208],
-    names: &'s [u8; 208],
-    renames: &'s [u8; 208],
-    hasbutton: &mut [bool; 208],
-    hasaxis: &mut [bool; 208],
-    values: &mut Values,
-    times: &mut Times,
-    marks: &mut Marks,
-    queuebytes: &mut QueueBytes,
-    queuecodes: &mut QueueCodes,
+    listed: &Listing<'_>,
+    lent: &mut Store<'_>,
     batch: &[u8],
     out: &mut [u8; 16384],
     text: &mut [u8; 559538],
 ) -> usize
     ensures { Told (rounds_of rounds (hub_of head
-        (listed codes.now kinds.now names.now renames.now)
-        (columns hasbutton.old hasaxis.old values.old times.old marks.old
-        queuebytes.old queuecodes.old))
+        (listed_now listed.now) (columns_now lent.old))
         batch.now 0 out.old 0) text.new result }
 {
     let mut h = head;
     let mut place: usize = 0;
     let mut steps: usize = 0;
     let mut at: usize = 0;
-    let mut left = ROUNDS;
-    while 0 < left {
-        let pumped = pump::pump(
-            h, codes, kinds, names, renames, hasbutton, hasaxis, values, times, marks, queuebytes,
-            queuecodes, batch, place, out, ALLOWANCE,
-        );
-        let answer = pumped.answer;
-        let t = tally_of(answer);
+    for n in 0..ROUNDS {
+        let pumped = pump::pump(h, listed, lent, batch, place, out, ALLOWANCE);
+        let t = tally_of(pumped.answer);
         at = lines::lines(text, at, out, t.events);
         if t.ends != GOES_ON {
             return last(text, at, t, steps);
         }
-        let next = pumped.head;
-        h = next;
+        h = pumped.head;
         place = t.place;
-        steps = steps + t.steps;
-        left -= 1;
+        steps += t.steps;
     }
     at
 }
@@ -192,31 +168,33 @@ fn log(input: &[u8], out: &mut [u8; 16384], text: &mut [u8; 559538]) -> usize
         &mut marks,
         &input[..end],
     );
-    let answer = registered.answer;
-    match answer {
-        RegisterAnswer::Pad(_) => {
-            let head = registered.head;
+    match registered.answer {
+        Ok(_) => {
+            let listed = Listing {
+                codes: &codes,
+                kinds: &kinds,
+                names: &names,
+                renames: &renames,
+            };
+            let mut lent = Store {
+                hasbutton: &mut hasbutton,
+                hasaxis: &mut hasaxis,
+                values: &mut values,
+                times: &mut times,
+                marks: &mut marks,
+                queuebytes: &mut queuebytes,
+                queuecodes: &mut queuecodes,
+            };
             pump_all(
-                head,
-                &codes,
-                &kinds,
-                &names,
-                &renames,
-                &mut hasbutton,
-                &mut hasaxis,
-                &mut values,
-                &mut times,
-                &mut marks,
-                &mut queuebytes,
-                &mut queuecodes,
+                registered.head,
+                &listed,
+                &mut lent,
                 &input[end..],
                 out,
                 text,
             )
         }
-        RegisterAnswer::Refused(number) => {
-            lines::labelled(text, 0, b"SHEET ", number as u64, NEWLINE)
-        }
+        Err(refusal) => { lines::labelled(text, 0, b"SHEET ", refusal.number as u64, NEWLINE) }
     }
 }
 
@@ -244,9 +222,10 @@ fn skipped(stdin: &mut impl Read) -> io::Result<bool> {
 
 // What is left of the input changes nothing: where the buffer of `main` is full, the batch is too long already.
 fn skip_all(stdin: &mut impl Read) -> io::Result<()> {
-    let mut turns = u64::MAX;
-    while turns > 0 && skipped(stdin)? {
-        turns -= 1;
+    for _ in 0..u64::MAX {
+        if !skipped(stdin)? {
+            break;
+        }
     }
     Ok(())
 }

@@ -1,4 +1,4 @@
-// Document 01's pump on a hub that is lent: the head goes in and comes back by value, each array is lent by itself and changed where it stands, so that no call
+// Document 01's pump on a hub that is lent: the head goes in and comes back by value, the arrays are lent and changed where they stand, so that no call
 // copies the hub. A turn of the loop takes an event, makes a record's marks, and serves the event, each in one call that is lent the arrays; a kept event is
 // settled in the state and written. The contract is the equation of the pump that takes the hub by value, at the hub that head and arrays stand for, and one for
 // the report beside each answer.
@@ -7,11 +7,11 @@
 ghost use Rattle.std.specs.Prelude.{◌≡◌};
 ghost use Rattle.rules.specs.Pump.{pump_of};
 ghost use Rattle.rules.specs.Tilt.{pump_tilt};
-ghost use Rattle.hub.specs.Lent.{listed, columns, hub_of, pumped};
+ghost use Rattle.hub.specs.Lent.{hub_of, pumped};
+ghost use Rattle.hub.specs.Holding.{listed_now, columns_now, Same};
 ghost use Rattle.pump.specs.Stepped.{stepped_head};
 
-use columns::{Marks, QueueBytes, QueueCodes, Times, Values};
-use hub::{Head, PumpedHead};
+use hub::{Head, Listing, PumpedHead, Seen, Serving, State, Store};
 use numbers::Tilt;
 use rules::{EVENT_SIZE, PumpAnswer};
 
@@ -44,36 +44,19 @@ fn stepped(
 // Takes records from a batch, and waiting events before them, one a step; sends each through the filters, keeps the state, and writes what is handed out as
 // bytes. It stops Drained, Full or Paused, or at a record that is refused, with the place in the batch, the events written and the steps made, and reports which of
 // three the deadzone calculation was for its last axis event that met a threshold. Refuses 14 and 8 for the whole call, and a record by 8, 6, 9, 10, 11, 12.
-pub fn pump<'s>(
+pub fn pump(
     head: Head,
-    codes: &'s [u32; 208],
-    kinds: &'s [u8; 208],
-    names: &'s [u8; 208],
-    renames: &'s [u8; 208],
-    hasbutton: &mut [bool; 208],
-    hasaxis: &mut [bool; 208],
-    values: &mut Values,
-    times: &mut Times,
-    marks: &mut Marks,
-    queuebytes: &mut QueueBytes,
-    queuecodes: &mut QueueCodes,
+    listed: &Listing<'_>,
+    lent: &mut Store<'_>,
     batch: &[u8],
     place: usize,
     out: &mut [u8],
     allowance: u16,
 ) -> PumpedHead
-    ensures { (pumped result (listed codes.now kinds.now names.now renames.now)
-        (columns hasbutton.new hasaxis.new values.new times.new marks.new
-        queuebytes.new queuecodes.new)
-        out.new
-        ≡ pump_of (hub_of head (listed codes.now kinds.now names.now renames.now)
-        (columns hasbutton.old hasaxis.old values.old times.old marks.old
-        queuebytes.old queuecodes.old))
-        batch.now place out.old allowance)
-        × (result.tilt ≡ pump_tilt (hub_of head (listed codes.now kinds.now names.now renames.now)
-        (columns hasbutton.old hasaxis.old values.old times.old marks.old
-        queuebytes.old queuecodes.old))
-        batch.now place out.old allowance) }
+    ensures pumped { pumped result (listed_now listed.now) (columns_now lent.new) out.new
+        ≡ pump_of (hub_of head (listed_now listed.now) (columns_now lent.old)) batch.now place out.old allowance }
+    ensures tilt { result.tilt ≡ pump_tilt (hub_of head (listed_now listed.now) (columns_now lent.old)) batch.now place out.old allowance }
+    ensures same { Same lent.old lent.new }
 {
     let settings = head;
     let refused = refusals::pump_refusal(batch.len(), out.len(), place);
@@ -116,18 +99,18 @@ pub fn pump<'s>(
                 };
             }
             // gather and decide: what is taken
+            let seen = Seen {
+                hasbutton: lent.hasbutton,
+                values: lent.values,
+                times: lent.times,
+                marks: lent.marks,
+                queuebytes: lent.queuebytes,
+                queuecodes: lent.queuecodes,
+            };
             let taken = taking::take(
-                codes,
-                kinds,
-                names,
-                renames,
+                listed,
                 &renamed,
-                hasbutton,
-                values,
-                times,
-                marks,
-                queuebytes,
-                queuecodes,
+                &seen,
                 batch,
                 at,
                 waiting,
@@ -150,8 +133,8 @@ pub fn pump<'s>(
             passing::joining::mark_joins(
                 &mut connected,
                 &mut renamed,
-                hasbutton,
-                hasaxis,
+                lent.hasbutton,
+                lent.hasaxis,
                 &mut flags,
                 &mut down,
                 &mut held,
@@ -163,21 +146,21 @@ pub fn pump<'s>(
             front = taken.head;
             left = left - 1;
             // what the filters make of the event; commit: flags and queue
+            let mut serving = Serving {
+                hasbutton: lent.hasbutton,
+                hasaxis: lent.hasaxis,
+                marks: lent.marks,
+                values: lent.values,
+                times: lent.times,
+                queuebytes: lent.queuebytes,
+                queuecodes: lent.queuecodes,
+            };
             let passed = passing::serve(
-                codes,
-                kinds,
-                names,
-                renames,
+                listed,
                 &renamed,
                 &converts,
                 &newconverts,
-                hasbutton,
-                hasaxis,
-                values,
-                times,
-                marks,
-                queuebytes,
-                queuecodes,
+                &mut serving,
                 &mut flags,
                 settings.filters,
                 taken,
@@ -192,19 +175,22 @@ pub fn pump<'s>(
         };
         // commit: the state, and the event's bytes
         let kept = sent.event;
+        let mut state = State {
+            hasbutton: lent.hasbutton,
+            hasaxis: lent.hasaxis,
+            values: lent.values,
+            times: lent.times,
+            marks: lent.marks,
+        };
         let change = cells::settle(
-            hasbutton,
-            hasaxis,
-            values,
-            times,
-            marks,
+            &mut state,
             settings.updates,
             kept,
             settings.counter,
             sent.place,
         );
         down::follow(
-            kinds,
+            listed.kinds,
             &mut down,
             &mut held,
             &mut heldaxes,

@@ -14,10 +14,9 @@ ghost use Rattle.gather.specs.EventPlaces.{PlaceIs};
 ghost use Rattle.hub.specs.Lent.{Listed, Columns, listed, columns, hub_of};
 
 use columns::{Marks, Times, Values};
-use hub::Head;
+use hub::{Buttons, Head};
 use rules::{
-    AxisAnswer, ButtonAnswer, DownAnswer, ELEMENT_AXIS, NO_NAME, NOWHERE, NumberAnswer,
-    PLACES_PER_PAD, TruthAnswer, ValueAnswer,
+    AxisData, ButtonData, ELEMENT_AXIS, NO_NAME, NOWHERE, PLACES_PER_PAD, PadDown, Refusal,
 };
 
 // ---- pressed
@@ -27,21 +26,24 @@ use rules::{
 pub fn is_pressed_by_code(
     head: Head,
     codes: &[u32; 208],
-    hasbutton: &[bool; 208],
-    values: &Values,
-    times: &Times,
-    marks: &Marks,
+    buttons: &Buttons<'_>,
     p: u8,
     code: u32,
-) -> TruthAnswer
-    ensures { (kinds names renames queuebytes queuecodes : List ℕ) (hasaxis : List Bool) →
+) -> Result<bool, Refusal>
+    ensures { (kinds names renames queuebytes queuecodes : List ℕ) (hasaxis : List Bool) → let b = buttons.now in
         result ≡ pressed_by_code (hub_of head (listed codes.now kinds names renames)
-        (columns hasbutton.now hasaxis values.now times.now marks.now queuebytes queuecodes))
+        (columns b.hasbutton.now hasaxis b.values.now b.times.now b.marks.now queuebytes queuecodes))
         p code }
 {
-    let refusal = refusals::pad_refusal(head.pads, p);
+    refusals::pad_refusal(head.pads, p)?; // 6, and not false
     let place = pad::place_of(codes, p, code);
-    reading::pressed_at(hasbutton, values, times, marks, refusal, place)
+    Ok(cells::held_in(
+        buttons.hasbutton,
+        buttons.values,
+        buttons.times,
+        buttons.marks,
+        place,
+    ))
 }
 
 // "`is_pressed` by a name that no element has falls back to `to_nec`"
@@ -71,21 +73,24 @@ pub fn is_pressed<'s>(
     codes: &'s [u32; 208],
     names: &'s [u8; 208],
     renames: &'s [u8; 208],
-    hasbutton: &[bool; 208],
-    values: &Values,
-    times: &Times,
-    marks: &Marks,
+    buttons: &Buttons<'_>,
     p: u8,
     name: u8,
-) -> TruthAnswer
-    ensures { (kinds queuebytes queuecodes : List ℕ) (hasaxis : List Bool) →
+) -> Result<bool, Refusal>
+    ensures { (kinds queuebytes queuecodes : List ℕ) (hasaxis : List Bool) → let b = buttons.now in
         result ≡ pressed_by_name (hub_of head (listed codes.now kinds names.now renames.now)
-        (columns hasbutton.now hasaxis values.now times.now marks.now queuebytes queuecodes))
+        (columns b.hasbutton.now hasaxis b.values.now b.times.now b.marks.now queuebytes queuecodes))
         p name }
 {
-    let refusal = refusals::button_query_refusal(head.pads, p, name);
+    refusals::button_query_refusal(head.pads, p, name)?; // 6 or 16, and not false
     let place = button_place(codes, names, renames, &head.renamed, p, name);
-    reading::pressed_at(hasbutton, values, times, marks, refusal, place)
+    Ok(cells::held_in(
+        buttons.hasbutton,
+        buttons.values,
+        buttons.times,
+        buttons.marks,
+        place,
+    ))
 }
 
 // ---- value
@@ -95,22 +100,26 @@ pub fn is_pressed<'s>(
 pub fn value_by_code(
     head: Head,
     codes: &[u32; 208],
-    hasbutton: &[bool; 208],
+    buttons: &Buttons<'_>,
     hasaxis: &[bool; 208],
-    values: &Values,
-    times: &Times,
-    marks: &Marks,
     p: u8,
     code: u32,
-) -> ValueAnswer
-    ensures { (kinds names renames queuebytes queuecodes : List ℕ) →
+) -> Result<Option<f32>, Refusal>
+    ensures { (kinds names renames queuebytes queuecodes : List ℕ) → let b = buttons.now in
         result ≡ value_by_code (hub_of head (listed codes.now kinds names renames)
-        (columns hasbutton.now hasaxis.now values.now times.now marks.now queuebytes queuecodes))
+        (columns b.hasbutton.now hasaxis.now b.values.now b.times.now b.marks.now queuebytes queuecodes))
         p code }
 {
-    let refusal = refusals::pad_refusal(head.pads, p);
+    refusals::pad_refusal(head.pads, p)?;
     let place = pad::place_of(codes, p, code);
-    reading::value_at(hasbutton, hasaxis, values, times, marks, refusal, place)
+    let Buttons {
+        hasbutton,
+        values,
+        times,
+        marks,
+    } = *buttons;
+    let value = cells::value_in(hasbutton, hasaxis, values, times, marks, place);
+    Ok(Some(value))
 }
 
 // The same by an axis's name. Refuses 6, 16.
@@ -119,72 +128,70 @@ pub fn value<'s>(
     head: Head,
     names: &'s [u8; 208],
     renames: &'s [u8; 208],
-    hasbutton: &[bool; 208],
+    buttons: &Buttons<'_>,
     hasaxis: &[bool; 208],
-    values: &Values,
-    times: &Times,
-    marks: &Marks,
     p: u8,
     name: u8,
-) -> ValueAnswer
-    ensures { (codes kinds queuebytes queuecodes : List ℕ) →
+) -> Result<Option<f32>, Refusal>
+    ensures { (codes kinds queuebytes queuecodes : List ℕ) → let b = buttons.now in
         result ≡ value_by_name (hub_of head (listed codes kinds names.now renames.now)
-        (columns hasbutton.now hasaxis.now values.now times.now marks.now queuebytes queuecodes))
+        (columns b.hasbutton.now hasaxis.now b.values.now b.times.now b.marks.now queuebytes queuecodes))
         p name }
 {
-    let refusal = refusals::axis_query_refusal(head.pads, p, name);
+    refusals::axis_query_refusal(head.pads, p, name)?;
     let place = gather::present_place(names, renames, &head.renamed, p, name);
-    reading::value_at(hasbutton, hasaxis, values, times, marks, refusal, place)
+    let Buttons {
+        hasbutton,
+        values,
+        times,
+        marks,
+    } = *buttons;
+    let axis = cells::value_in(hasbutton, hasaxis, values, times, marks, place);
+    Ok(Some(axis))
 }
 
 // ---- records
 
-// The button record of a code, or Absent. Refuses 6.
+// The button record of a code, or none. Refuses 6.
 #[tactic(auto, unfolding(rules::specs::Queries::button_by_code))]
 pub fn button_data_by_code(
     head: Head,
     codes: &[u32; 208],
-    hasbutton: &[bool; 208],
-    values: &Values,
-    times: &Times,
-    marks: &Marks,
+    buttons: &Buttons<'_>,
     p: u8,
     code: u32,
-) -> ButtonAnswer
-    ensures { (kinds names renames queuebytes queuecodes : List ℕ) (hasaxis : List Bool) →
+) -> Result<Option<ButtonData>, Refusal>
+    ensures { (kinds names renames queuebytes queuecodes : List ℕ) (hasaxis : List Bool) → let b = buttons.now in
         result ≡ button_by_code (hub_of head (listed codes.now kinds names renames)
-        (columns hasbutton.now hasaxis values.now times.now marks.now queuebytes queuecodes))
+        (columns b.hasbutton.now hasaxis b.values.now b.times.now b.marks.now queuebytes queuecodes))
         p code }
 {
-    let refusal = refusals::pad_refusal(head.pads, p);
+    refusals::pad_refusal(head.pads, p)?;
     let place = pad::place_of(codes, p, code);
-    reading::button_at(hasbutton, values, times, marks, refusal, place)
+    Ok(reading::button_at(buttons, place))
 }
 
-// The button record of a name, or Absent. Refuses 6, 16.
+// The button record of a name, or none. Refuses 6, 16.
 #[tactic(auto, unfolding(rules::specs::Queries::button_by_name))]
 pub fn button_data<'s>(
     head: Head,
     names: &'s [u8; 208],
     renames: &'s [u8; 208],
-    hasbutton: &[bool; 208],
-    values: &Values,
-    times: &Times,
-    marks: &Marks,
+    buttons: &Buttons<'_>,
     p: u8,
     name: u8,
-) -> ButtonAnswer
-    ensures { (codes kinds queuebytes queuecodes : List ℕ) (hasaxis : List Bool) →
+) -> Result<Option<ButtonData>, Refusal>
+    ensures { (codes kinds queuebytes queuecodes : List ℕ) (hasaxis : List Bool) → let b = buttons.now in
         result ≡ button_by_name (hub_of head (listed codes kinds names.now renames.now)
-        (columns hasbutton.now hasaxis values.now times.now marks.now queuebytes queuecodes))
+        (columns b.hasbutton.now hasaxis b.values.now b.times.now b.marks.now queuebytes queuecodes))
         p name }
 {
-    let refusal = refusals::button_query_refusal(head.pads, p, name);
+    refusals::button_query_refusal(head.pads, p, name)?;
     let place = gather::present_place(names, renames, &head.renamed, p, name);
-    reading::button_at(hasbutton, values, times, marks, refusal, place)
+    Ok(reading::button_at(buttons, place))
 }
 
-// The axis record of a code, or Absent. Refuses 6.
+// The axis record of a code, or none. Refuses 6.
 #[tactic(auto, unfolding(rules::specs::Queries::axis_by_code))]
 pub fn axis_data_by_code(
     head: Head,
@@ -194,18 +201,18 @@ pub fn axis_data_by_code(
     times: &Times,
     p: u8,
     code: u32,
-) -> AxisAnswer
+) -> Result<Option<AxisData>, Refusal>
     ensures { (kinds names renames queuebytes queuecodes : List ℕ) → (hasbutton marks : List Bool) →
         result ≡ axis_by_code (hub_of head (listed codes.now kinds names renames)
         (columns hasbutton hasaxis.now values.now times.now marks queuebytes queuecodes))
         p code }
 {
-    let refusal = refusals::pad_refusal(head.pads, p);
+    refusals::pad_refusal(head.pads, p)?;
     let place = pad::place_of(codes, p, code);
-    reading::axis_at(hasaxis, values, times, refusal, place)
+    Ok(reading::axis_at(hasaxis, values, times, place))
 }
 
-// The axis record of a name, or Absent. Refuses 6, 16.
+// The axis record of a name, or none. Refuses 6, 16.
 #[tactic(auto, unfolding(rules::specs::Queries::axis_by_name))]
 pub fn axis_data<'s>(
     head: Head,
@@ -216,15 +223,15 @@ pub fn axis_data<'s>(
     times: &Times,
     p: u8,
     name: u8,
-) -> AxisAnswer
+) -> Result<Option<AxisData>, Refusal>
     ensures { (codes kinds queuebytes queuecodes : List ℕ) → (hasbutton marks : List Bool) →
         result ≡ axis_by_name (hub_of head (listed codes kinds names.now renames.now)
         (columns hasbutton hasaxis.now values.now times.now marks queuebytes queuecodes))
         p name }
 {
-    let refusal = refusals::axis_query_refusal(head.pads, p, name);
+    refusals::axis_query_refusal(head.pads, p, name)?;
     let place = gather::present_place(names, renames, &head.renamed, p, name);
-    reading::axis_at(hasaxis, values, times, refusal, place)
+    Ok(reading::axis_at(hasaxis, values, times, place))
 }
 
 // ---- the sheet: thresholds, names and codes
@@ -239,20 +246,20 @@ pub fn deadzone_threshold(
     marks: &Marks,
     p: u8,
     code: u32,
-) -> ValueAnswer
+) -> Result<Option<f32>, Refusal>
     ensures { (names renames times queuebytes queuecodes : List ℕ) → (hasbutton hasaxis : List Bool) →
         result ≡ threshold_by_code (hub_of head (listed codes.now kinds.now names renames)
         (columns hasbutton hasaxis values.now times marks.now queuebytes queuecodes))
         p code }
 {
-    let refusal = refusals::pad_refusal(head.pads, p);
+    refusals::pad_refusal(head.pads, p)?;
     let place = pad::place_of(codes, p, code);
     let kind = pad::kind_at(kinds, place);
     let element = columns::element_at(values, marks, place);
-    reading::value_or_absent(refusal, kind == ELEMENT_AXIS, element.threshold)
+    Ok((kind == ELEMENT_AXIS).then_some(element.threshold))
 }
 
-// gilrs's `Gamepad::axis_or_btn_name`: the present name of a code, or Absent. Refuses 6.
+// gilrs's `Gamepad::axis_or_btn_name`: the present name of a code, or none. Refuses 6.
 #[tactic(auto, unfolding(rules::specs::Queries::name_by_code))]
 pub fn axis_or_btn_name<'s>(
     head: Head,
@@ -261,19 +268,19 @@ pub fn axis_or_btn_name<'s>(
     renames: &'s [u8; 208],
     p: u8,
     code: u32,
-) -> NumberAnswer
+) -> Result<Option<u32>, Refusal>
     ensures { (kinds times queuebytes queuecodes : List ℕ) → (hasbutton hasaxis marks : List Bool) (values : List Float) →
         result ≡ name_by_code (hub_of head (listed codes.now kinds names.now renames.now)
         (columns hasbutton hasaxis values times marks queuebytes queuecodes))
         p code }
 {
-    let refusal = refusals::pad_refusal(head.pads, p);
+    refusals::pad_refusal(head.pads, p)?;
     let place = pad::place_of(codes, p, code);
     let name = gather::present_name(names, renames, &head.renamed, p, place);
-    reading::number(refusal, name != NO_NAME, name as u32)
+    Ok((name != NO_NAME).then_some(name as u32))
 }
 
-// gilrs's `button_code` and `axis_code`, the name's byte says which: the code that has a name at present, or Absent. Refuses 6, 16.
+// gilrs's `button_code` and `axis_code`, the name's byte says which: the code that has a name at present, or none. Refuses 6, 16.
 #[tactic(auto, unfolding(rules::specs::Queries::code_by_name))]
 pub fn code_of_name<'s>(
     head: Head,
@@ -282,50 +289,53 @@ pub fn code_of_name<'s>(
     renames: &'s [u8; 208],
     p: u8,
     name: u8,
-) -> NumberAnswer
+) -> Result<Option<u32>, Refusal>
     ensures { (kinds times queuebytes queuecodes : List ℕ) → (hasbutton hasaxis marks : List Bool) (values : List Float) →
         result ≡ code_by_name (hub_of head (listed codes.now kinds names.now renames.now)
         (columns hasbutton hasaxis values times marks queuebytes queuecodes))
         p name }
 {
-    let refusal = refusals::name_query_refusal(head.pads, p, name);
+    refusals::name_query_refusal(head.pads, p, name)?;
     let place = gather::present_place(names, renames, &head.renamed, p, name);
     let code = pad::code_at(codes, place);
-    reading::number(refusal, place < NOWHERE, code)
+    Ok((place < NOWHERE).then_some(code))
 }
 
 // ---- what is down (W-213)
 
 // How many button records of a pad are pressed, and whether an axis element's is. Refuses 6.
 #[tactic(auto, unfolding(rules::specs::Queries::down_of))]
-pub fn down(head: Head, p: u8) -> DownAnswer
+pub fn down(head: Head, p: u8) -> Result<PadDown, Refusal>
     ensures { (s : Listed) (t : Columns) → result ≡ down_of (hub_of head s t) p }
 {
-    let refusal = refusals::pad_refusal(head.pads, p);
+    refusals::pad_refusal(head.pads, p)?;
     let count = pad::pad_number(&head.held, p);
-    reading::down(refusal, count, 0 < pad::pad_number(&head.heldaxes, p))
+    Ok(PadDown {
+        count,
+        axis: 0 < pad::pad_number(&head.heldaxes, p),
+    })
 }
 
-// The lowest code of a pad whose button record is pressed, or Absent. Refuses 6.
+// The lowest code of a pad whose button record is pressed, or none. Refuses 6.
 #[tactic(auto, unfolding(rules::specs::Queries::lowest_pressed))]
-pub fn lowest_pressed(head: Head, codes: &[u32; 208], p: u8) -> NumberAnswer
+pub fn lowest_pressed(head: Head, codes: &[u32; 208], p: u8) -> Result<Option<u32>, Refusal>
     ensures { (kinds names renames : List ℕ) (t : Columns) → result ≡ lowest_pressed (hub_of head (listed codes.now kinds names renames) t) p }
 {
-    let refusal = refusals::pad_refusal(head.pads, p);
+    refusals::pad_refusal(head.pads, p)?;
     let lowest = down::lowest(&head.down, p);
-    let code = pad::code_at(codes, PLACES_PER_PAD * choices::wide(p) + lowest);
-    reading::number(refusal, lowest < PLACES_PER_PAD, code)
+    let code = pad::code_at(codes, PLACES_PER_PAD * usize::from(p) + lowest);
+    Ok((lowest < PLACES_PER_PAD).then_some(code))
 }
 
 // ---- the head
 
 // "connected but from a taken Disconnected record to the next Connected"
 #[tactic(auto, unfolding(rules::specs::Queries::connected_of))]
-pub fn is_connected(head: Head, p: u8) -> TruthAnswer
+pub fn is_connected(head: Head, p: u8) -> Result<bool, Refusal>
     ensures { (s : Listed) (t : Columns) → result ≡ connected_of (hub_of head s t) p }
 {
-    let refusal = refusals::pad_refusal(head.pads, p);
-    reading::truth(refusal, pad::pad_bool(&head.connected, p))
+    refusals::pad_refusal(head.pads, p)?; // 6, and not that it is gone
+    Ok(pad::pad_bool(&head.connected, p))
 }
 
 // The present hats: a rename's until the next Connected.
@@ -341,11 +351,11 @@ pub fn hats_now(head: Head, p: u8) -> u8
 
 // W-212: whether one to three hat directions are mapped, as an archived sheet may have them. Refuses 6.
 #[tactic(auto, unfolding(rules::specs::Queries::old_of))]
-pub fn is_old(head: Head, p: u8) -> TruthAnswer
+pub fn is_old(head: Head, p: u8) -> Result<bool, Refusal>
     ensures { (s : Listed) (t : Columns) → result ≡ old_of (hub_of head s t) p }
 {
-    let refusal = refusals::pad_refusal(head.pads, p);
-    reading::truth(refusal, refusals::partial_hats(hats_now(head, p)))
+    refusals::pad_refusal(head.pads, p)?; // 6, and not that it is new
+    Ok(refusals::partial_hats(hats_now(head, p)))
 }
 
 // How many events wait.

@@ -1,17 +1,17 @@
-// The refusals of document 01 by number: the first that holds in its order, 0 for none. Each function equals its definition in the law book for every
-// input.
+// The refusals of document 01, in its order: `Ok`, or the first that holds, by its number. Each function equals its definition in the law book for every
+// input. What the pump's loop hands on is the number itself, 0 for none.
 #![tactic(auto)]
 
 ghost use Rattle.std.specs.Prelude.{◌≡◌, true, cond, not, ◌&&◌, ◌||◌, eqb, ltb};
 ghost use Rattle.rules.specs.Refusals.{in_unit, thresholds_refusal, is_registered, value_fits, time_fits, element_refusal, fields_refusal, record_refusal};
 ghost use Rattle.rules.specs.Refusals.{code_refusal, form_refusal, insert_refusal, pump_refusal, repeat_refusal};
-ghost use Rattle.rules.specs.Refusals.{button_query_refusal, axis_query_refusal, name_query_refusal, unless_fits};
+ghost use Rattle.rules.specs.Refusals.{button_query_refusal, axis_query_refusal, name_query_refusal, unless_fits, judged};
 ghost use Rattle.rules.specs.Refusals as Refusals;
 ghost use Rattle.rules.specs.Sheets.{partial_of};
 
 use rules::{
     ELEMENT_AXIS, ELEMENT_BUTTON, EVENT_AXIS, EventForm, KIND_AXIS, LAST_HATS, NOWHERE, NextRecord,
-    PADS, RawRecord,
+    PADS, RawRecord, Refusal,
 };
 
 const LAST_TIME: u64 = 0x3fff_ffff_ffff_ffff;
@@ -31,6 +31,24 @@ pub fn unless_fits(fits: bool, number: u8) -> u8
     if fits { 0 } else { number }
 }
 
+// The refusal of a number, where it is one.
+pub fn judge(number: u8) -> Result<(), Refusal>
+    ensures { result ≡ judged number }
+{
+    if number == 0 {
+        Ok(())
+    } else {
+        Err(Refusal { number })
+    }
+}
+
+// The refusal of a number where something does not fit.
+pub fn refuse_unless(fits: bool, number: u8) -> Result<(), Refusal>
+    ensures { result ≡ judged (unless_fits fits number) }
+{
+    judge(unless_fits(fits, number))
+}
+
 // The first refusal of two: 0 is none.
 pub fn first(a: u8, b: u8) -> u8
     ensures { result ≡ Refusals.first a b }
@@ -44,20 +62,16 @@ pub fn first(a: u8, b: u8) -> u8
 fn in_unit(x: f32) -> bool
     ensures { result ≡ in_unit x }
 {
-    choices::both(0.0 <= x, x <= 1.0)
+    0.0 <= x && x <= 1.0
 }
 
 // 1: thresholds of `new` that do not lie in 0..1 with released below pressed.
 #[tactic(auto, unfolding(rules::specs::Refusals::thresholds_refusal))]
-pub fn thresholds_refusal(pressed: f32, released: f32) -> u8
-    ensures { result ≡ thresholds_refusal pressed released }
+pub fn thresholds_refusal(pressed: f32, released: f32) -> Result<(), Refusal>
+    ensures { result ≡ judged (thresholds_refusal pressed released) }
 {
-    choices::chosen(
-        choices::both(
-            in_unit(pressed),
-            choices::both(in_unit(released), released < pressed),
-        ),
-        0,
+    refuse_unless(
+        in_unit(pressed) && in_unit(released) && released < pressed,
         1,
     )
 }
@@ -69,7 +83,7 @@ pub fn thresholds_refusal(pressed: f32, released: f32) -> u8
 pub fn is_registered(pads: u8, p: u8) -> bool
     ensures { result ≡ is_registered pads p }
 {
-    choices::both(p < pads, p < PADS)
+    p < pads && p < PADS
 }
 
 // ---- 11 and 12
@@ -96,22 +110,24 @@ pub fn time_fits(time: u64) -> bool
 fn spoken(kind: u8) -> u8
     ensures { result ≡ cond (eqb kind 3) 2 1 }
 {
-    choices::chosen(kind == KIND_AXIS, ELEMENT_AXIS, ELEMENT_BUTTON)
+    if kind == KIND_AXIS {
+        ELEMENT_AXIS
+    } else {
+        ELEMENT_BUTTON
+    }
 }
 
 #[tactic(auto, unfolding(rules::specs::Refusals::element_refusal))]
 fn element_refusal(recordkind: u8, kind: u8) -> u8
     ensures { result ≡ element_refusal recordkind kind }
 {
-    choices::chosen(
-        KIND_AXIS < recordkind,
-        0,
-        choices::chosen(
-            kind == 0,
-            9,
-            choices::chosen(kind == spoken(recordkind), 0, 10),
-        ),
-    )
+    if KIND_AXIS < recordkind {
+        0
+    } else if kind == 0 {
+        9
+    } else {
+        unless_fits(kind == spoken(recordkind), 10)
+    }
 }
 
 // The refusal of a record that is well formed: 6, 9, 10, 11, 12.
@@ -167,38 +183,30 @@ pub fn record_refusal(l: NextRecord, pads: u8, kind: u8) -> u8
 // ---- events: 8 by the reader, then 6, 9, 11, 12, and 13 for an insert
 
 #[tactic(auto, unfolding(rules::specs::Refusals::code_refusal))]
-fn code_refusal(kind: u8, place: usize) -> u8
-    ensures { result ≡ code_refusal kind place }
+fn code_refusal(kind: u8, place: usize) -> Result<(), Refusal>
+    ensures { result ≡ judged (code_refusal kind place) }
 {
-    choices::chosen(EVENT_AXIS < kind, 0, unless_fits(place < NOWHERE, 9))
+    refuse_unless(EVENT_AXIS < kind || place < NOWHERE, 9)
 }
 
 // The refusal of an event that `update` is given: 6, 9, 11, 12.
 #[tactic(auto, unfolding(rules::specs::Refusals::form_refusal))]
-pub fn form_refusal(f: EventForm, pads: u8, place: usize) -> u8
-    ensures { result ≡ form_refusal f pads place }
+pub fn form_refusal(f: EventForm, pads: u8, place: usize) -> Result<(), Refusal>
+    ensures { result ≡ judged (form_refusal f pads place) }
 {
-    first(
-        unless_fits(is_registered(pads, f.pad), 6),
-        first(
-            code_refusal(f.kind, place),
-            first(
-                unless_fits(value_fits(f.bits), 11),
-                unless_fits(time_fits(f.time), 12),
-            ),
-        ),
-    )
+    pad_refusal(pads, f.pad)?;
+    code_refusal(f.kind, place)?;
+    refuse_unless(value_fits(f.bits), 11)?;
+    refuse_unless(time_fits(f.time), 12)
 }
 
 // The same for `insert_event`: also 13, where 16 or more wait.
 #[tactic(auto, unfolding(rules::specs::Refusals::insert_refusal))]
-pub fn insert_refusal(f: EventForm, pads: u8, place: usize, waiting: u8) -> u8
-    ensures { result ≡ insert_refusal f pads place waiting }
+pub fn insert_refusal(f: EventForm, pads: u8, place: usize, waiting: u8) -> Result<(), Refusal>
+    ensures { result ≡ judged (insert_refusal f pads place waiting) }
 {
-    first(
-        form_refusal(f, pads, place),
-        unless_fits(waiting < INSERT_LIMIT, 13),
-    )
+    form_refusal(f, pads, place)?;
+    refuse_unless(waiting < INSERT_LIMIT, 13)
 }
 
 // ---- the pump: 14, then 8 for a place past the end
@@ -208,25 +216,23 @@ pub fn insert_refusal(f: EventForm, pads: u8, place: usize, waiting: u8) -> u8
 pub fn pump_refusal(batch: usize, out: usize, place: usize) -> u8
     ensures { result ≡ pump_refusal batch out place }
 {
-    choices::chosen(
-        choices::either(BUFFER_LIMIT < batch, BUFFER_LIMIT < out),
-        14,
-        choices::chosen(batch < place, 8, 0),
-    )
+    if BUFFER_LIMIT < batch || BUFFER_LIMIT < out {
+        14
+    } else {
+        unless_fits(place <= batch, 8)
+    }
 }
 
 // ---- repeat: 15, 12
 
 // The refusal of `repeat`: 15, then 12.
 #[tactic(auto, unfolding(rules::specs::Refusals::repeat_refusal))]
-pub fn repeat_refusal(after: u64, every: u64, now: u64) -> u8
-    ensures { result ≡ repeat_refusal after every now }
+pub fn repeat_refusal(after: u64, every: u64, now: u64) -> Result<(), Refusal>
+    ensures { result ≡ judged (repeat_refusal after every now) }
 {
-    let fits = choices::both(
-        after <= LAST_WAIT,
-        choices::both(1 <= every, every <= LAST_WAIT),
-    );
-    first(unless_fits(fits, 15), unless_fits(time_fits(now), 12))
+    let fits = after <= LAST_WAIT && (1..=LAST_WAIT).contains(&every);
+    refuse_unless(fits, 15)?;
+    refuse_unless(time_fits(now), 12)
 }
 
 // ---- registration: 29
@@ -237,62 +243,57 @@ pub fn partial_hats(hats: u8) -> bool
     ensures { result ≡ partial_of hats }
 {
     let low = hats % (LAST_HATS + 1);
-    choices::both(0 < low, low < LAST_HATS)
+    0 < low && low < LAST_HATS
 }
 
 // 29: partial hats, but for an archived sheet.
-pub fn hats_refusal(archived: bool, hats: u8) -> u8
-    ensures { result ≡ cond (not archived && partial_of hats) 29 0 }
+pub fn hats_refusal(archived: bool, hats: u8) -> Result<(), Refusal>
+    ensures { result ≡ judged (cond (not archived && partial_of hats) 29 0) }
 {
-    if archived {
-        return 0;
-    }
-    unless_fits(!partial_hats(hats), 29)
+    refuse_unless(archived || !partial_hats(hats), 29)
 }
 
 // ---- queries: 6, 16
 
 // 6: a pad that is not registered.
-pub fn pad_refusal(pads: u8, p: u8) -> u8
-    ensures { result ≡ unless_fits (is_registered pads p) 6 }
+pub fn pad_refusal(pads: u8, p: u8) -> Result<(), Refusal>
+    ensures { result ≡ judged (unless_fits (is_registered pads p) 6) }
 {
-    unless_fits(is_registered(pads, p), 6)
+    refuse_unless(is_registered(pads, p), 6)
 }
 
 // 6, then 16 where the name is not of the sort asked.
-fn named_refusal(pads: u8, p: u8, sort: bool) -> u8
-    ensures { result ≡ Refusals.first (unless_fits (is_registered pads p) 6) (unless_fits sort 16) }
+fn named_refusal(pads: u8, p: u8, sort: bool) -> Result<(), Refusal>
+    ensures { result ≡ judged (Refusals.first (unless_fits (is_registered pads p) 6) (unless_fits sort 16)) }
 {
-    first(
-        unless_fits(is_registered(pads, p), 6),
-        unless_fits(sort, 16),
-    )
+    pad_refusal(pads, p)?;
+    refuse_unless(sort, 16)
 }
 
 // The refusal of a query by a button's name: 6, 16.
 #[tactic(auto, unfolding(rules::specs::Refusals::button_query_refusal))]
-pub fn button_query_refusal(pads: u8, p: u8, name: u8) -> u8
-    ensures { result ≡ button_query_refusal pads p name }
+pub fn button_query_refusal(pads: u8, p: u8, name: u8) -> Result<(), Refusal>
+    ensures { result ≡ judged (button_query_refusal pads p name) }
 {
     named_refusal(pads, p, names::names_button(name))
 }
 
 // The refusal of a query by an axis's name: 6, 16.
 #[tactic(auto, unfolding(rules::specs::Refusals::axis_query_refusal))]
-pub fn axis_query_refusal(pads: u8, p: u8, name: u8) -> u8
-    ensures { result ≡ axis_query_refusal pads p name }
+pub fn axis_query_refusal(pads: u8, p: u8, name: u8) -> Result<(), Refusal>
+    ensures { result ≡ judged (axis_query_refusal pads p name) }
 {
     named_refusal(pads, p, names::names_axis(name))
 }
 
 // The refusal of a query by a name of either kind: 6, 16.
 #[tactic(auto, unfolding(rules::specs::Refusals::name_query_refusal))]
-pub fn name_query_refusal(pads: u8, p: u8, name: u8) -> u8
-    ensures { result ≡ name_query_refusal pads p name }
+pub fn name_query_refusal(pads: u8, p: u8, name: u8) -> Result<(), Refusal>
+    ensures { result ≡ judged (name_query_refusal pads p name) }
 {
     named_refusal(
         pads,
         p,
-        choices::either(names::names_button(name), names::names_axis(name)),
+        names::names_button(name) || names::names_axis(name),
     )
 }

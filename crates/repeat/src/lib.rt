@@ -1,7 +1,7 @@
 // Repeat: gilrs's `Repeat`, with the clock as input. Whether a record is due, the event that it gives, and the scan of a pad's records for the first due one.
 #![tactic(auto)]
 
-ghost use Rattle.std.specs.Prelude.{◌≡◌, true, ◌≤◌, length};
+ghost use Rattle.std.specs.Prelude.{◌≡◌, true, position};
 ghost use Rattle.rules.specs.Repeat.{wait_of, due_of, repeated_of};
 ghost use Rattle.repeat.specs.Run.{first_of};
 
@@ -20,21 +20,11 @@ fn wait(b: ButtonData, after: u64, every: u64) -> u64
 pub fn due(b: ButtonData, known: bool, after: u64, every: u64, clock: u64) -> bool
     ensures { result ≡ due_of known b after every clock }
 {
-    if !known {
-        return false;
-    }
-    if !b.pressed {
-        return false;
-    }
-    let stamp = b.stamp;
-    if stamp <= clock {
-        return wait(b, after, every) <= clock - stamp;
-    }
-    false
+    known && b.pressed && b.stamp <= clock && wait(b, after, every) <= clock - b.stamp
 }
 
 // "The time is its stamp plus after or every"; "The name is the code's present button name, else Unknown"
-#[tactic(auto, unfolding(rules::specs::Repeat::repeated_of))]
+#[tactic(auto, unfolding(rules::specs::Repeat::repeated_of, rules::specs::Repeat::due_of))]
 pub fn repeated(
     pad: u8,
     name: u8,
@@ -50,30 +40,24 @@ pub fn repeated(
 {
     let shown = dispatch::button_name(name);
     Event {
-        pad: pad,
+        pad,
         time: b.stamp + wait(b, after, every),
         event: EventType::Repeated(shown, code),
     }
 }
 
 // "Codes rising; the first due button": place order is that order. The records of one pad are a lent run, one for each of its places.
-fn scan(buttons: &[ButtonData], after: u64, every: u64, clock: u64) -> usize
-    requires { 52 ≤ length buttons.now }
-    ensures { result ≡ first_of buttons.now after every clock }
+fn scan(buttons: &[ButtonData], after: u64, every: u64, clock: u64) -> Option<usize>
+    ensures { result ≡ position (λ b. due_of true b after every clock) buttons.now }
 {
-    let mut index: usize = 0;
-    while index < PLACES_PER_PAD {
-        if due(buttons[index], true, after, every, clock) {
-            return index;
-        }
-        index = index + 1;
-    }
-    PLACES_PER_PAD
+    buttons
+        .iter()
+        .position(|b| due(*b, true, after, every, clock))
 }
 
-// the scan over a pad's button records, which are lent to it
+// the scan over a pad's button records, which are lent to it; past the last place where none is due
 pub fn first_of_pad(buttons: [ButtonData; 52], after: u64, every: u64, clock: u64) -> usize
     ensures { result ≡ first_of buttons after every clock }
 {
-    scan(&buttons, after, every, clock)
+    scan(&buttons, after, every, clock).unwrap_or(PLACES_PER_PAD)
 }

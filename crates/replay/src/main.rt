@@ -2,8 +2,6 @@
 // and reads one operation at a time, so its memory is bounded whatever the input's length.
 #![tactic(auto)]
 
-ghost use Rattle.std.specs.Prelude.{◌≡◌, ◌≤◌, length, IfOk};
-
 use columns::{Marks, QueueBytes, QueueCodes, Times, Values};
 use hub::Head;
 use replay_turns::Game;
@@ -13,62 +11,7 @@ use std::io::{Print, Read};
 // the text is written out once so much of it stands; an operation adds at most 744 lines of events
 const ENOUGH: usize = 131072;
 
-// ---- reading and writing
-
-// Whether one more operation was read, its opcode, and how long its payload is.
-#[derive(Clone, Copy)]
-struct Operation {
-    more: bool,
-    opcode: u8,
-    size: usize,
-}
-
-fn no_more() -> Operation
-    ensures { result.size ≡ 0 }
-{
-    Operation {
-        more: false,
-        opcode: 0,
-        size: 0,
-    }
-}
-
-// Whether the input has the bytes that fill the room, however few each read gives.
-fn came(input: &mut impl Read, room: &mut [u8]) -> io::Result<bool> {
-    match input.read_exact(room) {
-        Ok(()) => Ok(true),
-        Err(e) => {
-            if e.kind() == io::ErrorKind::UnexpectedEof {
-                Ok(false)
-            } else {
-                Err(e)
-            }
-        }
-    }
-}
-
-// The next operation is read. The input ends with the last one; a payload that is too long or cut short ends it too.
-fn next_operation(input: &mut impl Read, payload: &mut [u8]) -> io::Result<Operation>
-    ensures { IfOk result (λ o. o.size ≤ length payload.new) }
-{
-    // an opcode and the payload's length in 4 bytes
-    let mut opening = [0u8; 5];
-    if !came(input, &mut opening)? {
-        return Ok(no_more());
-    }
-    let size = wire::read4(&opening, 1) as usize;
-    if payload.len() < size {
-        return Ok(no_more());
-    }
-    if !came(input, &mut payload[..size])? {
-        return Ok(no_more());
-    }
-    Ok(Operation {
-        more: true,
-        opcode: opening[0],
-        size: size,
-    })
-}
+// ---- writing
 
 // What stands of the text is written out.
 fn write(to: &impl Print, text: &[u8], at: usize) -> io::Result<()> {
@@ -81,10 +24,11 @@ fn write(to: &impl Print, text: &[u8], at: usize) -> io::Result<()> {
 // The text is written out where it is long enough, and the place for what follows.
 fn flushed(to: &impl Print, text: &[u8], at: usize) -> io::Result<usize> {
     if at < ENOUGH {
-        return Ok(at);
+        Ok(at)
+    } else {
+        write(to, text, at)?;
+        Ok(0)
     }
-    write(to, text, at)?;
-    Ok(0)
 }
 
 // ---- playing
@@ -171,10 +115,10 @@ fn play_all(
         head: no_head(),
         at: 0,
     };
-    let mut o = next_operation(input, payload)?;
-    let mut turns = u64::MAX;
-    while turns > 0 && o.more {
-        let size = o.size;
+    for _ in 0..u64::MAX {
+        let Some((opcode, payload)) = reading::next(input, payload)? else {
+            break;
+        };
         g = played(
             g,
             &mut codes,
@@ -188,14 +132,12 @@ fn play_all(
             &mut marks,
             &mut queuebytes,
             &mut queuecodes,
-            o.opcode,
-            &payload[..size],
+            opcode,
+            payload,
             out,
             text,
         );
         g.at = flushed(to, text, g.at)?;
-        o = next_operation(input, payload)?;
-        turns -= 1;
     }
     write(to, text, g.at)
 }

@@ -5,43 +5,40 @@ ghost use Rattle.std.specs.Prelude.{◌≡◌};
 
 use hub::Head;
 use numbers::{Tilt, Tilted};
-use rules::{
-    Answer, AxisAnswer, ButtonAnswer, DownAnswer, NumberAnswer, PumpAnswer, RegisterAnswer,
-    RepeatAnswer, TruthAnswer, ValueAnswer,
-};
+use rules::{AxisData, ButtonData, Event, PadDown, PumpAnswer, Refusal};
 
 // ---- the answers
 
 // Of an operation that leaves the hub as it is: `Nothing` of what is none.
 #[derive(Clone, Copy)]
 pub enum Asked {
-    Truth(TruthAnswer),
-    Value(ValueAnswer),
-    Threshold(ValueAnswer),
-    Button(ButtonAnswer),
-    Axis(AxisAnswer),
-    Name(NumberAnswer),
-    Code(NumberAnswer),
-    Stands(TruthAnswer),
-    Repeat(RepeatAnswer),
+    Truth(Result<bool, Refusal>),
+    Value(Result<Option<f32>, Refusal>),
+    Threshold(Result<Option<f32>, Refusal>),
+    Button(Result<Option<ButtonData>, Refusal>),
+    Axis(Result<Option<AxisData>, Refusal>),
+    Name(Result<Option<u32>, Refusal>),
+    Code(Result<Option<u32>, Refusal>),
+    Stands(Result<bool, Refusal>),
+    Repeat(Result<Option<Event>, Refusal>),
     Waiting(u8),
     Counter(u64),
-    Since(ButtonAnswer),
+    Since(Result<Option<ButtonData>, Refusal>),
     Pair(Tilted),
-    Down(DownAnswer),
+    Down(Result<PadDown, Refusal>),
     Nothing,
 }
 
 // Of one that changes it; `Reported` of a pump that tells its report too.
 #[derive(Clone, Copy)]
 pub enum Changed {
-    Begun(Answer),
-    Registered(RegisterAnswer),
-    Renamed(Answer),
+    Begun(Result<(), Refusal>),
+    Registered(Result<u8, Refusal>),
+    Renamed(Result<(), Refusal>),
     Pumped(PumpAnswer),
     Reported(PumpAnswer, Tilt),
-    Updated(Answer),
-    Inserted(Answer),
+    Updated(Result<(), Refusal>),
+    Inserted(Result<(), Refusal>),
     Counter(u64),
     Nothing,
 }
@@ -57,8 +54,5 @@ pub struct Told {
 pub fn tell(head: Head, answer: Changed) -> Told
     ensures { (result.head ≡ head) × (result.answer ≡ answer) }
 {
-    Told {
-        head: head,
-        answer: answer,
-    }
+    Told { head, answer }
 }

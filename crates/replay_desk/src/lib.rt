@@ -13,7 +13,7 @@ use columns::{Marks, QueueBytes, QueueCodes, Times, Values};
 use hub::Head;
 use replay_answers::{Changed, Told};
 
-// the opcodes, in the order of `oracle/README.md`
+// the opcodes, in the order of `oracle/README.md`; no enum, since `set_up_of` of specs/SetUp.antt speaks of their numbers
 pub const NEW: u8 = 1;
 
 const REGISTER: u8 = 2;
@@ -83,9 +83,7 @@ fn begin(
         queuebytes,
         queuecodes,
     );
-    let h = r.head;
-    let answer = r.answer;
-    replay_answers::tell(h, Changed::Begun(answer))
+    replay_answers::tell(r.head, Changed::Begun(r.answer))
 }
 
 // ---- by a sheet
@@ -114,9 +112,7 @@ fn register(
     let r = desk::register(
         archived, head, codes, kinds, names, hasbutton, hasaxis, values, marks, sheet,
     );
-    let h = r.head;
-    let answer = r.answer;
-    replay_answers::tell(h, Changed::Registered(answer))
+    replay_answers::tell(r.head, Changed::Registered(r.answer))
 }
 
 // Register or register_archived.
@@ -140,17 +136,15 @@ fn by_sheet(
         (columns hasbutton.old hasaxis.old values.old times marks.old queuebytes queuecodes))
         opcode sheet.now }
 {
-    if opcode == REGISTER {
-        return register(
+    match opcode {
+        REGISTER => register(
             false, head, codes, kinds, names, hasbutton, hasaxis, values, marks, sheet,
-        );
-    }
-    if opcode == REGISTER_ARCHIVED {
-        return register(
+        ),
+        REGISTER_ARCHIVED => register(
             true, head, codes, kinds, names, hasbutton, hasaxis, values, marks, sheet,
-        );
+        ),
+        _ => replay_answers::tell(head, Changed::Nothing),
     }
-    replay_answers::tell(head, Changed::Nothing)
 }
 
 // ---- rename
@@ -170,13 +164,11 @@ fn rename<'s>(
         ≡ renamed_of (hub_of head (listed codes.now kinds.now names renames.old)
         (columns hasbutton hasaxis values times marks queuebytes queuecodes)) payload.now }
 {
-    if payload.len() < 1 {
+    let Some((p, list)) = payload.split_first() else {
         return replay_answers::tell(head, Changed::Nothing);
-    }
-    let r = desk::rename(head, codes, kinds, renames, payload[0], &payload[1..]);
-    let h = r.head;
-    let answer = r.answer;
-    replay_answers::tell(h, Changed::Renamed(answer))
+    };
+    let r = desk::rename(head, codes, kinds, renames, *p, list);
+    replay_answers::tell(r.head, Changed::Renamed(r.answer))
 }
 
 // ---- any operation that sets a desk up
@@ -186,16 +178,7 @@ fn rename<'s>(
 pub fn sets_up(opcode: u8) -> bool
     ensures { result ≡ sets_up opcode }
 {
-    if opcode == NEW {
-        return true;
-    }
-    if opcode == REGISTER {
-        return true;
-    }
-    if opcode == REGISTER_ARCHIVED {
-        return true;
-    }
-    opcode == RENAME
+    matches!(opcode, NEW | REGISTER | REGISTER_ARCHIVED | RENAME)
 }
 
 // Plays one of them.
@@ -223,16 +206,14 @@ pub fn set_up(
         (columns hasbutton.old hasaxis.old values.old times.old marks.old
         queuebytes.old queuecodes.old)) opcode payload.now }
 {
-    if opcode == NEW {
-        return begin(
+    match opcode {
+        NEW => begin(
             head, codes, kinds, names, renames, hasbutton, hasaxis, values, times, marks,
             queuebytes, queuecodes, payload,
-        );
+        ),
+        RENAME => rename(head, codes, kinds, renames, payload),
+        _ => by_sheet(
+            head, codes, kinds, names, hasbutton, hasaxis, values, marks, opcode, payload,
+        ),
     }
-    if opcode == RENAME {
-        return rename(head, codes, kinds, renames, payload);
-    }
-    by_sheet(
-        head, codes, kinds, names, hasbutton, hasaxis, values, marks, opcode, payload,
-    )
 }

@@ -47,6 +47,8 @@ fn stick(text: &mut [u8], at: usize, known: bool, code: u32, a: AxisData) -> usi
     replay_words::axis_words(text, words, a)
 }
 
+// `buttons` and `sticks` stay two loops: one over a closure would have to say at which places it may be called and what a call prints, which is no plainer.
+
 // A pad's button records, codes rising.
 #[tactic(auto, unfolding(crate::specs::Dump::up_to, replay_words::specs::Pieces::laid_all))]
 fn buttons(
@@ -66,8 +68,7 @@ fn buttons(
         (written text.old at) }
 {
     let mut next = at;
-    let mut i: usize = 0;
-    while i < PLACES_PER_PAD {
+    for i in 0..PLACES_PER_PAD {
         let k = place(p, i);
         let b = columns::button_at(values, times, marks, k);
         next = button(
@@ -77,7 +78,6 @@ fn buttons(
             pad::code_at(codes, k),
             b,
         );
-        i += 1;
     }
     next
 }
@@ -99,8 +99,7 @@ fn sticks(
         (written text.old at) }
 {
     let mut next = at;
-    let mut i: usize = 0;
-    while i < PLACES_PER_PAD {
+    for i in 0..PLACES_PER_PAD {
         let k = place(p, i);
         let a = columns::axis_at(values, times, k);
         next = stick(
@@ -110,7 +109,6 @@ fn sticks(
             pad::code_at(codes, k),
             a,
         );
-        i += 1;
     }
     next
 }
@@ -128,10 +126,8 @@ fn flags(flags: &[bool; 24], text: &mut [u8], at: usize, p: u8) -> usize
 {
     let start = FLAGS_PER_PAD * p as usize;
     let mut next = lines::append(text, at, b"FLAGS ");
-    let mut i: usize = 0;
-    while i < FLAGS_PER_PAD {
+    for i in 0..FLAGS_PER_PAD {
         next = lines::append(text, next, &[digit(pad::flag_at(flags, start + i))]);
-        i += 1;
     }
     lines::append(text, next, b"\n")
 }
@@ -203,12 +199,10 @@ pub fn dump(
         (written text.old at) }
 {
     let mut next = at;
-    let mut p: u8 = 0;
-    while p < PADS {
+    for p in 0..PADS {
         next = pad_lines(
             head, codes, hasbutton, hasaxis, values, times, marks, text, next, p,
         );
-        p += 1;
     }
     last(text, next, head.counter, head.waiting)
 }

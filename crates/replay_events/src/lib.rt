@@ -8,7 +8,7 @@ ghost use Rattle.std.specs.Prelude.{◌≡◌, Bool, List, ℕ};
 ghost use Rattle.hub.specs.Lent.{Listed, Columns, listed, columns, hub_of};
 ghost use Rattle.rules.specs.Calls.{update_of, insert_of};
 ghost use Rattle.replay_answers.specs.Told.{told};
-ghost use Rattle.replay_events.specs.Sent.{sent, said_of, pumps, pumped_of, updated, inserted, counted_of, sends, sent_of};
+ghost use Rattle.replay_events.specs.Sent.{sent, said_of, pumps, pumped_of, updated, inserted, counted, counted_of, sends, sent_of};
 
 use columns::{Marks, QueueBytes, QueueCodes, Times, Values};
 use hub::Head;
@@ -16,7 +16,7 @@ use numbers::Tilt;
 use replay_answers::{Changed, Told};
 use rules::PumpAnswer;
 
-// the opcodes, in the order of `oracle/README.md`
+// the opcodes, in the order of `oracle/README.md`; no enum, since `sent_of` of specs/Sent.antt speaks of their numbers
 const PUMP: u8 = 4;
 
 const UPDATE: u8 = 5;
@@ -42,7 +42,7 @@ const BATCH_AT: usize = 10;
 fn pumps(opcode: u8) -> bool
     ensures { result ≡ pumps opcode }
 {
-    choices::either(opcode == PUMP, opcode == REPORT)
+    matches!(opcode, PUMP | REPORT)
 }
 
 // What a pump answered, with its report where the operation tells it: refusals too.
@@ -50,9 +50,10 @@ fn said(reports: bool, answer: PumpAnswer, tilt: Tilt) -> Changed
     ensures { result ≡ said_of reports answer tilt }
 {
     if reports {
-        return Changed::Reported(answer, tilt);
+        Changed::Reported(answer, tilt)
+    } else {
+        Changed::Pumped(answer)
     }
-    Changed::Pumped(answer)
 }
 
 // An out size over the longest buffer is refused whatever it is, so the longest one stands for it.
@@ -85,13 +86,14 @@ fn pump<'s>(
         return replay_answers::tell(head, Changed::Nothing);
     }
     let place = wire::read4(payload, 0) as usize;
-    let size = choices::least(wire::read4(payload, OUT_SIZE_AT) as usize, out.len());
-    let r = pump::pump(
-        head,
+    let size = (wire::read4(payload, OUT_SIZE_AT) as usize).min(out.len());
+    let listing = hub::Listing {
         codes,
         kinds,
         names,
         renames,
+    };
+    let mut store = hub::Store {
         hasbutton,
         hasaxis,
         values,
@@ -99,15 +101,17 @@ fn pump<'s>(
         marks,
         queuebytes,
         queuecodes,
+    };
+    let r = pump::pump(
+        head,
+        &listing,
+        &mut store,
         &payload[BATCH_AT..],
         place,
         &mut out[..size],
         wire::read2(payload, ALLOWANCE_AT),
     );
-    let h = r.head;
-    let answer = r.answer;
-    let tilt = r.tilt;
-    replay_answers::tell(h, said(reports, answer, tilt))
+    replay_answers::tell(r.head, said(reports, r.answer, r.tilt))
 }
 
 // ---- update, insert, and the counter
@@ -130,12 +134,15 @@ fn update<'s>(
         (columns hasbutton.old hasaxis.old values.old times.old marks.old queuebytes queuecodes))
         event.now) }
 {
-    let r = calls::update(
-        head, codes, kinds, hasbutton, hasaxis, values, times, marks, event,
-    );
-    let h = r.head;
-    let answer = r.answer;
-    replay_answers::tell(h, Changed::Updated(answer))
+    let mut state = hub::State {
+        hasbutton,
+        hasaxis,
+        values,
+        times,
+        marks,
+    };
+    let r = calls::update(head, codes, kinds, &mut state, event);
+    replay_answers::tell(r.head, Changed::Updated(r.answer))
 }
 
 fn insert(
@@ -155,24 +162,25 @@ fn insert(
         event.now) }
 {
     let r = calls::insert_event(head, codes, values, times, queuebytes, queuecodes, event);
-    let h = r.head;
-    let answer = r.answer;
-    replay_answers::tell(h, Changed::Inserted(answer))
+    replay_answers::tell(r.head, Changed::Inserted(r.answer))
+}
+
+// The counter that a head has.
+fn counted(head: Head) -> Told
+    ensures { (s : Listed) (t : Columns) → told result s t ≡ counted (hub_of head s t) }
+{
+    replay_answers::tell(head, Changed::Counter(clock::counter(head)))
 }
 
 #[tactic(auto, unfolding(crate::specs::Sent::counted_of))]
 fn count(head: Head, opcode: u8) -> Told
     ensures { (s : Listed) (t : Columns) → told result s t ≡ counted_of (hub_of head s t) opcode }
 {
-    if opcode == INC {
-        let h = clock::inc(head);
-        return replay_answers::tell(h, Changed::Counter(clock::counter(h)));
+    match opcode {
+        INC => counted(clock::inc(head)),
+        RESET_COUNTER => counted(clock::reset_counter(head)),
+        _ => replay_answers::tell(head, Changed::Nothing),
     }
-    if opcode == RESET_COUNTER {
-        let h = clock::reset_counter(head);
-        return replay_answers::tell(h, Changed::Counter(clock::counter(h)));
-    }
-    replay_answers::tell(head, Changed::Nothing)
 }
 
 // ---- any operation that sends events or counts
@@ -182,15 +190,9 @@ fn count(head: Head, opcode: u8) -> Told
 pub fn sends(opcode: u8) -> bool
     ensures { result ≡ sends opcode }
 {
-    choices::either(
-        pumps(opcode),
-        choices::either(
-            opcode == UPDATE,
-            choices::either(
-                opcode == INSERT,
-                choices::either(opcode == INC, opcode == RESET_COUNTER),
-            ),
-        ),
+    matches!(
+        opcode,
+        PUMP | REPORT | UPDATE | INSERT | INC | RESET_COUNTER
     )
 }
 
@@ -220,6 +222,7 @@ pub fn send<'s>(
         (columns hasbutton.old hasaxis.old values.old times.old marks.old
         queuebytes.old queuecodes.old)) opcode payload.now out.old }
 {
+    // if by if: as a `match`, the proof of the last arm did not close
     if pumps(opcode) {
         return pump(
             head,

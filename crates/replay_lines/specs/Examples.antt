@@ -1,12 +1,9 @@
 -- Lines printed into a buffer that has room for them. Computed.
-use Rattle.std.specs.Prelude.{◌≡◌, refl, true, [], ◌∷◌, take, replicate}
+use Rattle.std.specs.Prelude.{◌≡◌, refl, true, [], ◌∷◌, take, replicate, None, Ok, Some}
 use Rattle.std.specs.Float.Ieee as Ieee
 use Rattle.std.specs.Float.{binary32}
 use Rattle.numbers.specs.declared.Tilted.{Tilted}
 use Rattle.numbers.specs.declared.Tilt.TheVariants.{Between, Full}
-use Rattle.rules.specs.declared.ValueAnswer.TheVariants as value_answer
-use Rattle.rules.specs.declared.NumberAnswer.TheVariants as number_answer
-use Rattle.rules.specs.declared.DownAnswer.TheVariants as down_answer
 use Rattle.rules.specs.declared.PumpAnswer.TheVariants as pump_answer
 use Rattle.lines.specs.Appending.{laid_over}
 use Rattle.lines.specs.Text.{number_text, hex_text, decimal_of, hex_of, places_of, held_of, lines_of}
@@ -15,6 +12,7 @@ use Rattle.replay_answers.specs.declared.Asked.TheVariants as asked
 use Rattle.replay_answers.specs.declared.Changed.TheVariants as changed
 use Rattle.replay_words.specs.Pieces.{Written, written, laid, laid_all}
 use Rattle.replay_lines.specs.Lines.{query_pieces, call_pieces}
+use Rattle.rules.specs.Queries.{pad_down}
 
 -- 96 bytes of 0, nothing printed yet
 empty : Written
@@ -22,27 +20,27 @@ empty = written (replicate 96 0) 0
 
 -- "VALUE 3f800000"
 value_line :
-    take 15 (laid_all (query_pieces (asked.Value (value_answer.Value (Ieee.of_bits binary32 0x3f800000)))) empty).bytes
+    take 15 (laid_all (query_pieces (asked.Value (Ok (Some (Ieee.of_bits binary32 0x3f800000))))) empty).bytes
     ≡ Vee ∷ A ∷ L ∷ U ∷ E ∷ space ∷ 51 ∷ 102 ∷ 56 ∷ 48 ∷ 48 ∷ 48 ∷ 48 ∷ 48 ∷ newline ∷ []
 unfolding empty query_pieces laid_all laid laid_over hex_text hex_of Ieee.of_bits Ieee.to_bits
 value_line = refl
 
 -- "NAME 255"
 name-line :
-    take 9 (laid_all (query_pieces (asked.Name number_answer.Absent)) empty).bytes ≡ N ∷ A ∷ M ∷ E ∷ space ∷ 50 ∷ 53 ∷ 53 ∷ newline ∷ []
+    take 9 (laid_all (query_pieces (asked.Name (Ok None))) empty).bytes ≡ N ∷ A ∷ M ∷ E ∷ space ∷ 50 ∷ 53 ∷ 53 ∷ newline ∷ []
 unfolding empty query_pieces laid_all laid laid_over number_text decimal_of places_of
 name-line = refl
 
 -- "DOWN 52 1": every place of a pad, an axis element's among them
 down-line :
-    take 10 (laid_all (query_pieces (asked.Down (down_answer.Down 52 true))) empty).bytes
+    take 10 (laid_all (query_pieces (asked.Down (Ok (pad_down 52 true)))) empty).bytes
     ≡ D ∷ O ∷ W ∷ N ∷ space ∷ 53 ∷ 50 ∷ space ∷ 49 ∷ newline ∷ []
 unfolding empty query_pieces laid_all laid laid_over number_text decimal_of places_of
 down-line = refl
 
 -- "CODE 0001013c": the lowest pressed code is said as the code of a name is
 lowest-line :
-    take 14 (laid_all (query_pieces (asked.Code (number_answer.Number 0x0001013c))) empty).bytes
+    take 14 (laid_all (query_pieces (asked.Code (Ok (Some 0x0001013c)))) empty).bytes
     ≡ C ∷ O ∷ D ∷ E ∷ space ∷ 48 ∷ 48 ∷ 48 ∷ 49 ∷ 48 ∷ 49 ∷ 51 ∷ 99 ∷ newline ∷ []
 unfolding empty query_pieces laid_all laid laid_over hex_text hex_of
 lowest-line = refl

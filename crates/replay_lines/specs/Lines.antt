@@ -1,29 +1,13 @@
 -- The lines that say what an operation answered, in the order of the table of `oracle/README.md`. Definitions only.
-use Rattle.std.specs.Prelude.{ℕ, List, [], ◌∷◌, ◌++◌}
+use Rattle.std.specs.Prelude.{ℕ, ◌≡◌, List, [], ◌∷◌, ◌++◌, Bool, Err, Float, None, Ok, Option, Result, Some}
+use Rattle.std.specs.Fn.{Once}
 use Rattle.std.specs.Float.{binary32}
 use Rattle.std.specs.Float.Ieee.{to_bits}
+use denote.Ref.{MutBor}
 use Rattle.numbers.specs.declared.Tilt.{Tilt}
 use Rattle.numbers.specs.declared.Tilted.{Tilted}
-use Rattle.rules.specs.declared.Answer.{Answer}
-use Rattle.rules.specs.declared.Answer.TheVariants as answer
-use Rattle.rules.specs.declared.RegisterAnswer.{RegisterAnswer}
-use Rattle.rules.specs.declared.RegisterAnswer.TheVariants as register_answer
 use Rattle.rules.specs.declared.PumpAnswer.{PumpAnswer}
 use Rattle.rules.specs.declared.PumpAnswer.TheVariants as pump_answer
-use Rattle.rules.specs.declared.RepeatAnswer.{RepeatAnswer}
-use Rattle.rules.specs.declared.RepeatAnswer.TheVariants as repeat_answer
-use Rattle.rules.specs.declared.TruthAnswer.{TruthAnswer}
-use Rattle.rules.specs.declared.TruthAnswer.TheVariants as truth_answer
-use Rattle.rules.specs.declared.ValueAnswer.{ValueAnswer}
-use Rattle.rules.specs.declared.ValueAnswer.TheVariants as value_answer
-use Rattle.rules.specs.declared.ButtonAnswer.{ButtonAnswer}
-use Rattle.rules.specs.declared.ButtonAnswer.TheVariants as button_answer
-use Rattle.rules.specs.declared.AxisAnswer.{AxisAnswer}
-use Rattle.rules.specs.declared.AxisAnswer.TheVariants as axis_answer
-use Rattle.rules.specs.declared.NumberAnswer.{NumberAnswer}
-use Rattle.rules.specs.declared.NumberAnswer.TheVariants as number_answer
-use Rattle.rules.specs.declared.DownAnswer.{DownAnswer}
-use Rattle.rules.specs.declared.DownAnswer.TheVariants as down_answer
 use Rattle.rules.specs.Names.{no_name}
 use Rattle.rules.specs.Answers.{bit}
 use Rattle.rules.specs.Events.{form_of}
@@ -33,8 +17,13 @@ use Rattle.replay_answers.specs.declared.Asked.{Asked}
 use Rattle.replay_answers.specs.declared.Asked.TheVariants as asked
 use Rattle.replay_answers.specs.declared.Changed.{Changed}
 use Rattle.replay_answers.specs.declared.Changed.TheVariants as changed
-use Rattle.replay_words.specs.Pieces.{Piece, word, number, hex, labelled, line, lines}
+use Rattle.replay_words.specs.Pieces.{Piece, word, number, hex, labelled, line, lines, written, laid_all}
 use Rattle.replay_words.specs.Words.{button_pieces, axis_pieces, tilt_pieces}
+use Rattle.rules.specs.declared.AxisData.{AxisData}
+use Rattle.rules.specs.declared.ButtonData.{ButtonData}
+use Rattle.rules.specs.declared.PadDown.{PadDown}
+use Rattle.rules.specs.declared.Event.{Event}
+use Rattle.rules.specs.declared.Refusal.{Refusal}
 
 -- ---- what more than one operation answers
 
@@ -48,19 +37,32 @@ refused n = labelled refused_word n newline ∷ []
 abbrev pub absent : List Piece
 absent = word (A ∷ B ∷ S ∷ E ∷ N ∷ T ∷ newline ∷ []) ∷ []
 
+-- a line prints these pieces, wherever it is called
+abbrev pub Prints : {F T : Type 0} → Once F (MutBor (List ℕ) × (ℕ × (T × Unit {0}))) (ℕ × (MutBor (List ℕ) × Unit {0})) → F → (T → List Piece) → Type 0
+Prints {F} {T} g line pieces =
+    (x : T) (at next : ℕ) (before after : MutBor (List ℕ))
+    → g.post line (before, (at, (x, tt))) (next, (after, tt))
+    → written after.now next ≡ laid_all (pieces x) (written before.now at)
+
+-- the pieces of what is there, or that it is absent
+abbrev pub found : {T : Type 0} → (T → List Piece) → Result (Option T) Refusal → List Piece
+found pieces (Ok (Some x)) = pieces x
+found pieces (Ok None) = absent
+found pieces (Err e) = refused e.number
+
 -- an opcode or a payload that the form has not
 abbrev pub no_operation : List Piece
 no_operation = word (N ∷ O ∷ space ∷ O ∷ P ∷ E ∷ R ∷ A ∷ T ∷ I ∷ O ∷ N ∷ newline ∷ []) ∷ []
 
 -- ---- 1, 2, 3: new, register, rename; and 5, 6: update, insert
 
-abbrev pub done : List ℕ → Answer → List Piece
-done text answer.Done = word text ∷ []
-done text (answer.Refused n) = refused n
+abbrev pub done : List ℕ → Result (Unit {0}) Refusal → List Piece
+done text (Ok tt) = word text ∷ []
+done text (Err e) = refused e.number
 
-abbrev pub registered : RegisterAnswer → List Piece
-registered (register_answer.Pad p) = labelled (P ∷ A ∷ D ∷ space ∷ []) p newline ∷ []
-registered (register_answer.Refused n) = refused n
+abbrev pub registered : Result ℕ Refusal → List Piece
+registered (Ok p) = labelled (P ∷ A ∷ D ∷ space ∷ []) p newline ∷ []
+registered (Err e) = refused e.number
 
 -- ---- 4: pump, "each event, then `DRAINED`, `FULL`, `PAUSED` or `REFUSED n`, and place, events, steps"
 
@@ -78,10 +80,10 @@ pumped out (pump_answer.Refused n place events steps) = lines out events ∷ lab
 
 -- ---- 7: repeat, "the event, or `NONE`"
 
-abbrev pub repeated : RepeatAnswer → List Piece
-repeated (repeat_answer.Due e) = line (form_of e) ∷ []
-repeated repeat_answer.Quiet = word (N ∷ O ∷ N ∷ E ∷ newline ∷ []) ∷ []
-repeated (repeat_answer.Refused n) = refused n
+abbrev pub repeated : Result (Option Event) Refusal → List Piece
+repeated (Ok (Some e)) = line (form_of e) ∷ []
+repeated (Ok None) = word (N ∷ O ∷ N ∷ E ∷ newline ∷ []) ∷ []
+repeated (Err e) = refused e.number
 
 -- ---- 8, 9, 10: inc, counter, reset counter
 
@@ -90,45 +92,43 @@ counted n = labelled (C ∷ O ∷ U ∷ N ∷ T ∷ E ∷ R ∷ space ∷ []) n 
 
 -- ---- 11 to 18: pressed, value, button data, axis data; and 21, 22: threshold, connected
 
-abbrev pub truth : List ℕ → TruthAnswer → List Piece
-truth label (truth_answer.Is b) = labelled label (bit b) newline ∷ []
-truth label (truth_answer.Refused n) = refused n
+abbrev pub truth : List ℕ → Result Bool Refusal → List Piece
+truth label (Ok b) = labelled label (bit b) newline ∷ []
+truth label (Err e) = refused e.number
 
-abbrev pub value : List ℕ → ValueAnswer → List Piece
-value label (value_answer.Value v) = word label ∷ hex (to_bits binary32 v) newline ∷ []
-value label value_answer.Absent = absent
-value label (value_answer.Refused n) = refused n
+abbrev pub bits_line : List ℕ → Float → List Piece
+bits_line label v = word label ∷ hex (to_bits binary32 v) newline ∷ []
 
-abbrev pub button : ButtonAnswer → List Piece
-button (button_answer.Data b) = word (B ∷ U ∷ T ∷ T ∷ O ∷ N ∷ space ∷ []) ∷ button_pieces b
-button button_answer.Absent = absent
-button (button_answer.Refused n) = refused n
+abbrev pub value_line : Float → List Piece
+value_line = bits_line (Vee ∷ A ∷ L ∷ U ∷ E ∷ space ∷ [])
 
-abbrev pub stick : AxisAnswer → List Piece
-stick (axis_answer.Data a) = word (S ∷ T ∷ I ∷ C ∷ K ∷ space ∷ []) ∷ axis_pieces a
-stick axis_answer.Absent = absent
-stick (axis_answer.Refused n) = refused n
+abbrev pub threshold_line : Float → List Piece
+threshold_line = bits_line (T ∷ H ∷ R ∷ E ∷ S ∷ H ∷ O ∷ L ∷ D ∷ space ∷ [])
+
+abbrev pub button_line : ButtonData → List Piece
+button_line b = word (B ∷ U ∷ T ∷ T ∷ O ∷ N ∷ space ∷ []) ∷ button_pieces b
+
+abbrev pub stick_line : AxisData → List Piece
+stick_line a = word (S ∷ T ∷ I ∷ C ∷ K ∷ space ∷ []) ∷ axis_pieces a
 
 -- ---- 19, 20: name of a code, "255 for none"; code of a name, and 39: the lowest pressed code
 
 abbrev pub name_word : List ℕ
 name_word = N ∷ A ∷ M ∷ E ∷ space ∷ []
 
-abbrev pub named : NumberAnswer → List Piece
-named (number_answer.Number n) = labelled name_word n newline ∷ []
-named number_answer.Absent = labelled name_word no_name newline ∷ []
-named (number_answer.Refused n) = refused n
+abbrev pub named : Result (Option ℕ) Refusal → List Piece
+named (Ok (Some n)) = labelled name_word n newline ∷ []
+named (Ok None) = labelled name_word no_name newline ∷ []
+named (Err e) = refused e.number
 
-abbrev pub code : NumberAnswer → List Piece
-code (number_answer.Number n) = word (C ∷ O ∷ D ∷ E ∷ space ∷ []) ∷ hex n newline ∷ []
-code number_answer.Absent = absent
-code (number_answer.Refused n) = refused n
+abbrev pub code_line : ℕ → List Piece
+code_line n = word (C ∷ O ∷ D ∷ E ∷ space ∷ []) ∷ hex n newline ∷ []
 
 -- ---- 38: what is down on a pad, "axis 0 or 1"
 
-abbrev pub down : DownAnswer → List Piece
-down (down_answer.Down count axis) = labelled (D ∷ O ∷ W ∷ N ∷ space ∷ []) count space ∷ number (bit axis) newline ∷ []
-down (down_answer.Refused n) = refused n
+abbrev pub down : Result PadDown Refusal → List Piece
+down (Ok d) = labelled (D ∷ O ∷ W ∷ N ∷ space ∷ []) d.count space ∷ number (bit d.axis) newline ∷ []
+down (Err e) = refused e.number
 
 -- ---- 40: pump, its lines as in 4, then its report, "one line `TILT NONE`, `TILT INSIDE`, `TILT BETWEEN` or `TILT FULL`, after every answer"
 
@@ -144,10 +144,8 @@ pair t =
 
 -- ---- 42: since when a button is held
 
-abbrev pub since : ButtonAnswer → List Piece
-since (button_answer.Data b) = labelled (S ∷ I ∷ N ∷ C ∷ E ∷ space ∷ []) b.since newline ∷ []
-since button_answer.Absent = absent
-since (button_answer.Refused n) = refused n
+abbrev pub since_line : ButtonData → List Piece
+since_line b = labelled (S ∷ I ∷ N ∷ C ∷ E ∷ space ∷ []) b.since newline ∷ []
 
 -- ---- any operation
 
@@ -156,15 +154,15 @@ unfoldable pub query_pieces : Asked → List Piece
 query_pieces (asked.Repeat a) = repeated a
 query_pieces (asked.Counter n) = counted n
 query_pieces (asked.Truth a) = truth (I ∷ S ∷ space ∷ []) a
-query_pieces (asked.Value a) = value (Vee ∷ A ∷ L ∷ U ∷ E ∷ space ∷ []) a
-query_pieces (asked.Button a) = button a
-query_pieces (asked.Axis a) = stick a
+query_pieces (asked.Value a) = found value_line a
+query_pieces (asked.Button a) = found button_line a
+query_pieces (asked.Axis a) = found stick_line a
 query_pieces (asked.Name a) = named a
-query_pieces (asked.Code a) = code a
-query_pieces (asked.Threshold a) = value (T ∷ H ∷ R ∷ E ∷ S ∷ H ∷ O ∷ L ∷ D ∷ space ∷ []) a
+query_pieces (asked.Code a) = found code_line a
+query_pieces (asked.Threshold a) = found threshold_line a
 query_pieces (asked.Stands a) = truth (S ∷ T ∷ A ∷ N ∷ D ∷ S ∷ space ∷ []) a
 query_pieces (asked.Waiting n) = labelled (W ∷ A ∷ I ∷ T ∷ I ∷ N ∷ G ∷ space ∷ []) n newline ∷ []
-query_pieces (asked.Since a) = since a
+query_pieces (asked.Since a) = found since_line a
 query_pieces (asked.Pair t) = pair t
 query_pieces (asked.Down a) = down a
 query_pieces asked.Nothing = no_operation

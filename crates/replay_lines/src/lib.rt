@@ -2,20 +2,17 @@
 // place; it prints the pieces of its definition in `specs/Lines.antt`, each where the buffer has room for it, for every answer and every buffer.
 #![tactic(auto)]
 
-ghost use Rattle.std.specs.Prelude.{◌≡◌, [], ◌∷◌};
+ghost use Rattle.std.specs.Prelude.{◌≡◌, List, [], ◌∷◌};
 ghost use Rattle.rules.specs.Answers.{bit};
 ghost use Rattle.lines.specs.Letters.{newline};
-ghost use Rattle.replay_words.specs.Pieces.{written, laid_all, labelled};
+ghost use Rattle.replay_words.specs.Pieces.{Piece, written, laid_all, labelled};
 ghost use Rattle.replay_lines.specs.Lines as law;
-ghost use Rattle.replay_lines.specs.Lines.{query_pieces, call_pieces};
+ghost use Rattle.replay_lines.specs.Lines.{Prints, query_pieces, call_pieces};
 
 use lines::{NEWLINE, SPACE};
 use numbers::{Tilt, Tilted};
 use replay_answers::{Asked, Changed};
-use rules::{
-    Answer, AxisAnswer, ButtonAnswer, DownAnswer, NO_NAME, NumberAnswer, PumpAnswer,
-    RegisterAnswer, RepeatAnswer, TruthAnswer, ValueAnswer,
-};
+use rules::{AxisData, ButtonData, Event, NO_NAME, PadDown, PumpAnswer, Refusal};
 
 // ---- what more than one operation answers
 
@@ -26,10 +23,10 @@ fn none(text: &mut [u8], at: usize) -> usize
     lines::append(text, at, b"NO OPERATION\n")
 }
 
-fn refused(text: &mut [u8], at: usize, number: u8) -> usize
-    ensures { written text.new result ≡ laid_all (law.refused number) (written text.old at) }
+fn refused(text: &mut [u8], at: usize, refusal: Refusal) -> usize
+    ensures { written text.new result ≡ laid_all (law.refused refusal.number) (written text.old at) }
 {
-    lines::labelled(text, at, b"REFUSED ", number as u64, NEWLINE)
+    lines::labelled(text, at, b"REFUSED ", refusal.number as u64, NEWLINE)
 }
 
 fn absent(text: &mut [u8], at: usize) -> usize
@@ -46,21 +43,21 @@ fn truth(text: &mut [u8], at: usize, label: &[u8], b: bool) -> usize
 
 // ---- the answers of the calls
 
-fn done(text: &mut [u8], at: usize, word: &[u8], answer: Answer) -> usize
+fn done(text: &mut [u8], at: usize, word: &[u8], answer: Result<(), Refusal>) -> usize
     ensures { written text.new result ≡ laid_all (law.done word.now answer) (written text.old at) }
 {
     match answer {
-        Answer::Done => lines::append(text, at, word),
-        Answer::Refused(number) => refused(text, at, number),
+        Ok(()) => lines::append(text, at, word),
+        Err(refusal) => refused(text, at, refusal),
     }
 }
 
-fn registered(text: &mut [u8], at: usize, answer: RegisterAnswer) -> usize
+fn registered(text: &mut [u8], at: usize, answer: Result<u8, Refusal>) -> usize
     ensures { written text.new result ≡ laid_all (law.registered answer) (written text.old at) }
 {
     match answer {
-        RegisterAnswer::Pad(p) => lines::labelled(text, at, b"PAD ", p as u64, NEWLINE),
-        RegisterAnswer::Refused(number) => refused(text, at, number),
+        Ok(p) => lines::labelled(text, at, b"PAD ", p as u64, NEWLINE),
+        Err(refusal) => refused(text, at, refusal),
     }
 }
 
@@ -127,110 +124,113 @@ fn reported(text: &mut [u8], at: usize, out: &[u8], answer: PumpAnswer, tilt: Ti
     replay_words::tilt_word(text, next, tilt)
 }
 
-fn repeated(text: &mut [u8], at: usize, answer: RepeatAnswer) -> usize
+fn repeated(text: &mut [u8], at: usize, answer: Result<Option<Event>, Refusal>) -> usize
     ensures { written text.new result ≡ laid_all (law.repeated answer) (written text.old at) }
 {
     match answer {
-        RepeatAnswer::Due(e) => lines::line(text, at, events::form_of(e)),
-        RepeatAnswer::Quiet => lines::append(text, at, b"NONE\n"),
-        RepeatAnswer::Refused(number) => refused(text, at, number),
+        Ok(Some(e)) => lines::line(text, at, events::form_of(e)),
+        Ok(None) => lines::append(text, at, b"NONE\n"),
+        Err(refusal) => refused(text, at, refusal),
     }
 }
 
 // ---- the answers of the queries
 
-fn is(text: &mut [u8], at: usize, label: &[u8], answer: TruthAnswer) -> usize
+fn is(text: &mut [u8], at: usize, label: &[u8], answer: Result<bool, Refusal>) -> usize
     ensures { written text.new result ≡ laid_all (law.truth label.now answer) (written text.old at) }
 {
     match answer {
-        TruthAnswer::Is(b) => truth(text, at, label, b),
-        TruthAnswer::Refused(number) => refused(text, at, number),
+        Ok(b) => truth(text, at, label, b),
+        Err(refusal) => refused(text, at, refusal),
     }
 }
 
-fn value(text: &mut [u8], at: usize, label: &[u8], answer: ValueAnswer) -> usize
-    ensures { written text.new result ≡ laid_all (law.value label.now answer) (written text.old at) }
+// A float, by its bits.
+fn bits_line(text: &mut [u8], at: usize, label: &[u8], v: f32) -> usize
+    ensures { written text.new result ≡ laid_all (law.bits_line label.now v) (written text.old at) }
 {
-    match answer {
-        ValueAnswer::Value(v) => {
-            let next = lines::append(text, at, label);
-            lines::hex(text, next, binary32::bits_of(v), NEWLINE)
-        }
-        ValueAnswer::Absent => absent(text, at),
-        ValueAnswer::Refused(number) => refused(text, at, number),
-    }
+    let next = lines::append(text, at, label);
+    lines::hex(text, next, binary32::bits_of(v), NEWLINE)
 }
 
-fn button(text: &mut [u8], at: usize, answer: ButtonAnswer) -> usize
-    ensures { written text.new result ≡ laid_all (law.button answer) (written text.old at) }
+fn value_line(text: &mut [u8], at: usize, v: f32) -> usize
+    ensures { written text.new result ≡ laid_all (law.value_line v) (written text.old at) }
 {
-    match answer {
-        ButtonAnswer::Data(b) => {
-            let next = lines::append(text, at, b"BUTTON ");
-            replay_words::button_words(text, next, b)
-        }
-        ButtonAnswer::Absent => absent(text, at),
-        ButtonAnswer::Refused(number) => refused(text, at, number),
-    }
+    bits_line(text, at, b"VALUE ", v)
 }
 
-fn since(text: &mut [u8], at: usize, answer: ButtonAnswer) -> usize
-    ensures { written text.new result ≡ laid_all (law.since answer) (written text.old at) }
+fn threshold_line(text: &mut [u8], at: usize, v: f32) -> usize
+    ensures { written text.new result ≡ laid_all (law.threshold_line v) (written text.old at) }
 {
-    match answer {
-        ButtonAnswer::Data(b) => lines::labelled(text, at, b"SINCE ", b.since, NEWLINE),
-        ButtonAnswer::Absent => absent(text, at),
-        ButtonAnswer::Refused(number) => refused(text, at, number),
-    }
+    bits_line(text, at, b"THRESHOLD ", v)
 }
 
-fn stick(text: &mut [u8], at: usize, answer: AxisAnswer) -> usize
-    ensures { written text.new result ≡ laid_all (law.stick answer) (written text.old at) }
+fn button_line(text: &mut [u8], at: usize, b: ButtonData) -> usize
+    ensures { written text.new result ≡ laid_all (law.button_line b) (written text.old at) }
+{
+    let next = lines::append(text, at, b"BUTTON ");
+    replay_words::button_words(text, next, b)
+}
+
+fn since_line(text: &mut [u8], at: usize, b: ButtonData) -> usize
+    ensures { written text.new result ≡ laid_all (law.since_line b) (written text.old at) }
+{
+    lines::labelled(text, at, b"SINCE ", b.since, NEWLINE)
+}
+
+fn stick_line(text: &mut [u8], at: usize, a: AxisData) -> usize
+    ensures { written text.new result ≡ laid_all (law.stick_line a) (written text.old at) }
+{
+    let next = lines::append(text, at, b"STICK ");
+    replay_words::axis_words(text, next, a)
+}
+
+fn code_line(text: &mut [u8], at: usize, code: u32) -> usize
+    ensures { written text.new result ≡ laid_all (law.code_line code) (written text.old at) }
+{
+    let next = lines::append(text, at, b"CODE ");
+    lines::hex(text, next, code, NEWLINE)
+}
+
+// What may be absent: where it is there, its own line.
+fn found<T, F: FnOnce(&mut [u8], usize, T) -> usize>(
+    text: &mut [u8],
+    at: usize,
+    answer: Result<Option<T>, Refusal>,
+    line: F,
+) -> usize
+    requires { F.IsAlwaysCallable line }
+    ensures { (pieces : T → List Piece) → Prints F.FnOnce line pieces →
+        written text.new result ≡ laid_all (law.found pieces answer) (written text.old at) }
 {
     match answer {
-        AxisAnswer::Data(a) => {
-            let next = lines::append(text, at, b"STICK ");
-            replay_words::axis_words(text, next, a)
-        }
-        AxisAnswer::Absent => absent(text, at),
-        AxisAnswer::Refused(number) => refused(text, at, number),
+        Ok(Some(x)) => line(text, at, x),
+        Ok(None) => absent(text, at),
+        Err(refusal) => refused(text, at, refusal),
     }
 }
 
 // 255 where the code has no name.
-fn name(text: &mut [u8], at: usize, answer: NumberAnswer) -> usize
+fn name(text: &mut [u8], at: usize, answer: Result<Option<u32>, Refusal>) -> usize
     ensures { written text.new result ≡ laid_all (law.named answer) (written text.old at) }
 {
     match answer {
-        NumberAnswer::Number(n) => lines::labelled(text, at, b"NAME ", n as u64, NEWLINE),
-        NumberAnswer::Absent => lines::labelled(text, at, b"NAME ", NO_NAME as u64, NEWLINE),
-        NumberAnswer::Refused(number) => refused(text, at, number),
-    }
-}
-
-fn code(text: &mut [u8], at: usize, answer: NumberAnswer) -> usize
-    ensures { written text.new result ≡ laid_all (law.code answer) (written text.old at) }
-{
-    match answer {
-        NumberAnswer::Number(n) => {
-            let next = lines::append(text, at, b"CODE ");
-            lines::hex(text, next, n, NEWLINE)
-        }
-        NumberAnswer::Absent => absent(text, at),
-        NumberAnswer::Refused(number) => refused(text, at, number),
+        Ok(Some(n)) => lines::labelled(text, at, b"NAME ", n as u64, NEWLINE),
+        Ok(None) => lines::labelled(text, at, b"NAME ", NO_NAME as u64, NEWLINE),
+        Err(refusal) => refused(text, at, refusal),
     }
 }
 
 // How many button records of a pad are pressed, and whether an axis element's is.
-fn down(text: &mut [u8], at: usize, answer: DownAnswer) -> usize
+fn down(text: &mut [u8], at: usize, answer: Result<PadDown, Refusal>) -> usize
     ensures { written text.new result ≡ laid_all (law.down answer) (written text.old at) }
 {
     match answer {
-        DownAnswer::Down(count, axis) => {
-            let next = lines::labelled(text, at, b"DOWN ", count as u64, SPACE);
-            lines::number(text, next, replay_words::bit(axis), NEWLINE)
+        Ok(down) => {
+            let next = lines::labelled(text, at, b"DOWN ", down.count as u64, SPACE);
+            lines::number(text, next, replay_words::bit(down.axis), NEWLINE)
         }
-        DownAnswer::Refused(number) => refused(text, at, number),
+        Err(refusal) => refused(text, at, refusal),
     }
 }
 
@@ -240,12 +240,10 @@ fn down(text: &mut [u8], at: usize, answer: DownAnswer) -> usize
 fn pair(text: &mut [u8], at: usize, tilted: Tilted) -> usize
     ensures { written text.new result ≡ laid_all (law.pair tilted) (written text.old at) }
 {
-    let p = tilted.pair;
     let x = lines::append(text, at, b"PAIR ");
-    let y = lines::hex(text, x, binary32::bits_of(p.x), SPACE);
-    let word = lines::hex(text, y, binary32::bits_of(p.y), SPACE);
-    let tilt = tilted.tilt;
-    replay_words::tilt_word(text, word, tilt)
+    let y = lines::hex(text, x, binary32::bits_of(tilted.pair.x), SPACE);
+    let word = lines::hex(text, y, binary32::bits_of(tilted.pair.y), SPACE);
+    replay_words::tilt_word(text, word, tilted.tilt)
 }
 
 // ---- the lines of any operation
@@ -257,17 +255,17 @@ pub fn query_line(text: &mut [u8], at: usize, answer: Asked) -> usize
 {
     match answer {
         Asked::Truth(a) => is(text, at, b"IS ", a),
-        Asked::Value(a) => value(text, at, b"VALUE ", a),
-        Asked::Threshold(a) => value(text, at, b"THRESHOLD ", a),
-        Asked::Button(a) => button(text, at, a),
-        Asked::Axis(a) => stick(text, at, a),
+        Asked::Value(a) => found(text, at, a, value_line),
+        Asked::Threshold(a) => found(text, at, a, threshold_line),
+        Asked::Button(a) => found(text, at, a, button_line),
+        Asked::Axis(a) => found(text, at, a, stick_line),
         Asked::Name(a) => name(text, at, a),
-        Asked::Code(a) => code(text, at, a),
+        Asked::Code(a) => found(text, at, a, code_line),
         Asked::Stands(a) => is(text, at, b"STANDS ", a),
         Asked::Repeat(a) => repeated(text, at, a),
         Asked::Waiting(n) => lines::labelled(text, at, b"WAITING ", n as u64, NEWLINE),
         Asked::Counter(n) => counted(text, at, n),
-        Asked::Since(a) => since(text, at, a),
+        Asked::Since(a) => found(text, at, a, since_line),
         Asked::Pair(t) => pair(text, at, t),
         Asked::Down(a) => down(text, at, a),
         Asked::Nothing => none(text, at),

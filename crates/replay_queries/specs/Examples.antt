@@ -1,11 +1,10 @@
 -- Operation 41 on payloads of three numbers: x, y and the threshold; operation 44 on pads of archived sheets. Computed.
-use Rattle.std.specs.Prelude.{ℕ, ◌≡◌, refl, true, false, List, [], ◌∷◌, Float}
+use Rattle.std.specs.Prelude.{ℕ, ◌≡◌, refl, true, false, List, [], ◌∷◌, Float, Err, Ok}
 use Rattle.std.specs.Float.Ieee as Ieee
 use Rattle.std.specs.Float.{binary32}
 use Rattle.numbers.specs.Tilt.{tilted_of}
 use Rattle.numbers.specs.declared.Tilt.TheVariants.{Inside, Between, Full}
 use Rattle.rules.specs.declared.Hub.{Hub}
-use Rattle.rules.specs.declared.TruthAnswer.TheVariants.{Is, Refused}
 use Rattle.rules.specs.Forms.{field_of}
 use Rattle.rules.specs.Sheets.{sheet_bytes}
 use Rattle.rules.specs.Calls.{new_of, register_as, register_archived_of}
@@ -13,6 +12,7 @@ use Rattle.rules.specs.Queries.{old_of}
 use Rattle.replay_answers.specs.declared.Asked.{Asked}
 use Rattle.replay_answers.specs.declared.Asked.TheVariants as asked
 use Rattle.replay_queries.specs.Asked.{calculated, pair, old, by_pad, asked_of}
+use Rattle.rules.specs.Refusals.{numbered}
 
 -- ---- 41
 
@@ -64,6 +64,6 @@ asks payload = asked_of archived 44 payload
 -- a pad that is not registered, and a payload too long
 olds :
     (asks (0 ∷ []) ∷ asks (1 ∷ []) ∷ asks (2 ∷ []) ∷ asks (0 ∷ 0 ∷ []) ∷ [])
-    ≡ (asked.Truth (Is true) ∷ asked.Truth (Is false) ∷ asked.Truth (Refused 6) ∷ asked.Nothing ∷ [])
+    ≡ (asked.Truth (Ok true) ∷ asked.Truth (Ok false) ∷ asked.Truth (Err (numbered 6)) ∷ asked.Nothing ∷ [])
 unfolding value archived asks new_of register_as sheet_bytes old_of old by_pad asked_of Ieee.of_bits Ieee.lt Ieee.le
 olds = refl

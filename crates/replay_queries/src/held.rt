@@ -4,7 +4,7 @@ ghost use Rattle.hub.specs.Lent.{listed, columns, hub_of};
 ghost use Rattle.replay_queries.specs.Asked.{since};
 
 use columns::{Marks, Times, Values};
-use hub::Head;
+use hub::{Buttons, Head};
 use replay_answers::Asked;
 
 // the payload: pad 1, code 4
@@ -31,7 +31,11 @@ pub fn since(
     }
     let p = payload[0];
     let code = wire::read4(payload, 1);
-    Asked::Since(queries::button_data_by_code(
-        head, codes, hasbutton, values, times, marks, p, code,
-    ))
+    let buttons = Buttons {
+        hasbutton,
+        values,
+        times,
+        marks,
+    };
+    Asked::Since(queries::button_data_by_code(head, codes, &buttons, p, code))
 }

@@ -13,10 +13,10 @@ ghost use Rattle.hub.specs.Lent.{Listed, Columns, listed, columns, hub_of};
 ghost use Rattle.replay_queries.specs.Asked.{stands, of_head, by_pad, state_by_code, by_code, by_name, asked_of};
 
 use columns::{Marks, Times, Values};
-use hub::Head;
+use hub::{Buttons, Head};
 use replay_answers::Asked;
 
-// the opcodes, in the order of `oracle/README.md`
+// the opcodes, in the order of `oracle/README.md`; no enum, since `asked_of` of specs/Asked.antt speaks of their numbers
 const REPEAT: u8 = 7;
 
 const COUNTER: u8 = 9;
@@ -57,12 +57,10 @@ const SINCE: u8 = 42;
 
 const OLD: u8 = 44;
 
-// how long the payloads are: pad 1 and code 4, pad 1 and name 1, pad 1
+// how long the payloads are: pad 1 and code 4, pad 1 and name 1
 const CODE_PAYLOAD: usize = 5;
 
 const NAME_PAYLOAD: usize = 2;
-
-const PAD_PAYLOAD: usize = 1;
 
 // ---- by a code
 
@@ -85,27 +83,27 @@ fn state_by_code(
         (columns hasbutton.now hasaxis.now values.now times.now marks.now queuebytes queuecodes))
         opcode p code }
 {
-    if opcode == PRESSED_BY_CODE {
-        return Asked::Truth(queries::is_pressed_by_code(
-            head, codes, hasbutton, values, times, marks, p, code,
-        ));
-    }
-    if opcode == VALUE_BY_CODE {
-        return Asked::Value(queries::value_by_code(
-            head, codes, hasbutton, hasaxis, values, times, marks, p, code,
-        ));
-    }
-    if opcode == BUTTON_BY_CODE {
-        return Asked::Button(queries::button_data_by_code(
-            head, codes, hasbutton, values, times, marks, p, code,
-        ));
-    }
-    if opcode == AXIS_BY_CODE {
-        return Asked::Axis(queries::axis_data_by_code(
+    let buttons = Buttons {
+        hasbutton,
+        values,
+        times,
+        marks,
+    };
+    match opcode {
+        PRESSED_BY_CODE => Asked::Truth(queries::is_pressed_by_code(
+            head, codes, &buttons, p, code,
+        )),
+        VALUE_BY_CODE => Asked::Value(queries::value_by_code(
+            head, codes, &buttons, hasaxis, p, code,
+        )),
+        BUTTON_BY_CODE => Asked::Button(queries::button_data_by_code(
+            head, codes, &buttons, p, code,
+        )),
+        AXIS_BY_CODE => Asked::Axis(queries::axis_data_by_code(
             head, codes, hasaxis, values, times, p, code,
-        ));
+        )),
+        _ => Asked::Nothing,
     }
-    Asked::Nothing
 }
 
 // What the sheet has for a code, else what the state has.
@@ -130,17 +128,17 @@ fn by_code<'s>(
         (columns hasbutton.now hasaxis.now values.now times.now marks.now queuebytes queuecodes))
         opcode p code }
 {
-    if opcode == NAME_OF_CODE {
-        return Asked::Name(queries::axis_or_btn_name(head, codes, names, renames, p, code));
-    }
-    if opcode == THRESHOLD {
-        return Asked::Threshold(queries::deadzone_threshold(
+    match opcode {
+        NAME_OF_CODE => {
+            Asked::Name(queries::axis_or_btn_name(head, codes, names, renames, p, code))
+        }
+        THRESHOLD => Asked::Threshold(queries::deadzone_threshold(
             head, codes, kinds, values, marks, p, code,
-        ));
+        )),
+        _ => state_by_code(
+            head, codes, hasbutton, hasaxis, values, times, marks, opcode, p, code,
+        ),
     }
-    state_by_code(
-        head, codes, hasbutton, hasaxis, values, times, marks, opcode, p, code,
-    )
 }
 
 // ---- by a name
@@ -165,30 +163,28 @@ fn by_name<'s>(
         (columns hasbutton.now hasaxis.now values.now times.now marks.now queuebytes queuecodes))
         opcode p name }
 {
-    if opcode == PRESSED_BY_NAME {
-        return Asked::Truth(queries::is_pressed(
-            head, codes, names, renames, hasbutton, values, times, marks, p, name,
-        ));
-    }
-    if opcode == VALUE_BY_NAME {
-        return Asked::Value(queries::value(
-            head, names, renames, hasbutton, hasaxis, values, times, marks, p, name,
-        ));
-    }
-    if opcode == BUTTON_BY_NAME {
-        return Asked::Button(queries::button_data(
-            head, names, renames, hasbutton, values, times, marks, p, name,
-        ));
-    }
-    if opcode == AXIS_BY_NAME {
-        return Asked::Axis(queries::axis_data(
+    let buttons = Buttons {
+        hasbutton,
+        values,
+        times,
+        marks,
+    };
+    match opcode {
+        PRESSED_BY_NAME => Asked::Truth(queries::is_pressed(
+            head, codes, names, renames, &buttons, p, name,
+        )),
+        VALUE_BY_NAME => Asked::Value(queries::value(
+            head, names, renames, &buttons, hasaxis, p, name,
+        )),
+        BUTTON_BY_NAME => Asked::Button(queries::button_data(
+            head, names, renames, &buttons, p, name,
+        )),
+        AXIS_BY_NAME => Asked::Axis(queries::axis_data(
             head, names, renames, hasaxis, values, times, p, name,
-        ));
+        )),
+        CODE_OF_NAME => Asked::Code(queries::code_of_name(head, codes, names, renames, p, name)),
+        _ => Asked::Nothing,
     }
-    if opcode == CODE_OF_NAME {
-        return Asked::Code(queries::code_of_name(head, codes, names, renames, p, name));
-    }
-    Asked::Nothing
 }
 
 // ---- the head
@@ -198,10 +194,10 @@ fn by_name<'s>(
 fn stands(head: Head, payload: &[u8]) -> Asked
     ensures { (s : Listed) (t : Columns) → result ≡ stands (hub_of head s t) payload.now }
 {
-    if payload.len() != PAD_PAYLOAD {
-        return Asked::Nothing;
+    match payload {
+        [p] => Asked::Stands(queries::is_connected(head, *p)),
+        _ => Asked::Nothing,
     }
-    Asked::Stands(queries::is_connected(head, payload[0]))
 }
 
 // What the head has, whatever the arrays hold.
@@ -209,16 +205,12 @@ fn stands(head: Head, payload: &[u8]) -> Asked
 fn of_head(head: Head, opcode: u8, payload: &[u8]) -> Asked
     ensures { (s : Listed) (t : Columns) → result ≡ of_head (hub_of head s t) opcode payload.now }
 {
-    if opcode == COUNTER {
-        return Asked::Counter(clock::counter(head));
+    match opcode {
+        COUNTER => Asked::Counter(clock::counter(head)),
+        STANDS => stands(head, payload),
+        WAITING => Asked::Waiting(queries::waiting(head)),
+        _ => Asked::Nothing,
     }
-    if opcode == STANDS {
-        return stands(head, payload);
-    }
-    if opcode == WAITING {
-        return Asked::Waiting(queries::waiting(head));
-    }
-    Asked::Nothing
 }
 
 // What is down on a pad and whether it is old, else what the head has.
@@ -227,6 +219,7 @@ fn by_pad(head: Head, codes: &[u32; 208], opcode: u8, payload: &[u8]) -> Asked
     ensures { (kinds names renames : List ℕ) (t : Columns) →
         result ≡ by_pad (hub_of head (listed codes.now kinds names renames) t) opcode payload.now }
 {
+    // if by if: as a `match`, the proof of the last arm did not close
     if opcode == DOWN {
         return pressed::down(head, payload);
     }
@@ -262,6 +255,7 @@ pub fn ask<'s>(
         (columns hasbutton.now hasaxis.now values.now times.now marks.now queuebytes queuecodes))
         opcode payload.now }
 {
+    // if by if: as a `match`, the proof of the last arm did not close
     if opcode == REPEAT {
         return timed::repeat(
             head, codes, names, renames, hasbutton, values, times, marks, payload,

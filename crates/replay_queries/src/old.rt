@@ -6,16 +6,13 @@ ghost use Rattle.replay_queries.specs.Asked.{old};
 use hub::Head;
 use replay_answers::Asked;
 
-// the payload: pad 1
-const PAYLOAD: usize = 1;
-
 // The head alone tells it.
 #[tactic(auto, unfolding(crate::specs::Asked::old))]
 pub fn old(head: Head, payload: &[u8]) -> Asked
     ensures { (s : Listed) (t : Columns) → result ≡ old (hub_of head s t) payload.now }
 {
-    if payload.len() != PAYLOAD {
-        return Asked::Nothing;
+    match payload {
+        [p] => Asked::Truth(queries::is_old(head, *p)),
+        _ => Asked::Nothing,
     }
-    Asked::Truth(queries::is_old(head, payload[0]))
 }

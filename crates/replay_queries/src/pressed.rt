@@ -6,18 +6,15 @@ ghost use Rattle.replay_queries.specs.Asked.{down, lowest};
 use hub::Head;
 use replay_answers::Asked;
 
-// the payload: pad 1
-const PAYLOAD: usize = 1;
-
 // The head alone has it.
 #[tactic(auto, unfolding(crate::specs::Asked::down))]
 pub fn down(head: Head, payload: &[u8]) -> Asked
     ensures { (s : Listed) (t : Columns) → result ≡ down (hub_of head s t) payload.now }
 {
-    if payload.len() != PAYLOAD {
-        return Asked::Nothing;
+    match payload {
+        [p] => Asked::Down(queries::down(head, *p)),
+        _ => Asked::Nothing,
     }
-    Asked::Down(queries::down(head, payload[0]))
 }
 
 // The head tells its place; its line is that of a name's code.
@@ -26,8 +23,8 @@ pub fn lowest(head: Head, codes: &[u32; 208], payload: &[u8]) -> Asked
     ensures { (kinds names renames : List ℕ) (t : Columns) →
         result ≡ lowest (hub_of head (listed codes.now kinds names renames) t) payload.now }
 {
-    if payload.len() != PAYLOAD {
-        return Asked::Nothing;
+    match payload {
+        [p] => Asked::Code(queries::lowest_pressed(head, codes, *p)),
+        _ => Asked::Nothing,
     }
-    Asked::Code(queries::lowest_pressed(head, codes, payload[0]))
 }

@@ -1,6 +1,5 @@
 // The deadzone calculation on numbers of the payload, and which of the three it was (W-205). It looks at no hub.
 ghost use Rattle.std.specs.Prelude.{◌≡◌};
-ghost use Rattle.std.specs.Float.Ieee.{is_nan};
 ghost use Rattle.replay_queries.specs.Asked.{calculated, pair};
 
 use replay_answers::Asked;
@@ -12,22 +11,16 @@ const THRESHOLD_AT: usize = 8;
 
 const PAYLOAD: usize = 12;
 
-// Whether a value is the NaN, which alone differs from itself.
-fn is_nan(x: f32) -> bool
-    ensures { result ≡ is_nan x }
-{
-    x != x
-}
-
 // The calculation, where none of the three is a NaN.
 #[tactic(auto, unfolding(crate::specs::Asked::calculated))]
 fn calculated(x: f32, y: f32, threshold: f32) -> Asked
     ensures { result ≡ calculated x y threshold }
 {
-    if choices::either(is_nan(x), choices::either(is_nan(y), is_nan(threshold))) {
-        return Asked::Nothing;
+    if x.is_nan() || y.is_nan() || threshold.is_nan() {
+        Asked::Nothing
+    } else {
+        Asked::Pair(scale::apply_deadzone(x, y, threshold))
     }
-    Asked::Pair(scale::apply_deadzone(x, y, threshold))
 }
 
 #[tactic(auto, unfolding(crate::specs::Asked::pair))]

@@ -4,7 +4,7 @@ ghost use Rattle.hub.specs.Lent.{listed, columns, hub_of};
 ghost use Rattle.replay_queries.specs.Asked.{repeated};
 
 use columns::{Marks, Times, Values};
-use hub::Head;
+use hub::{Buttons, Head};
 use replay_answers::Asked;
 
 // the payload: after 8, every 8, now 8
@@ -30,15 +30,18 @@ pub fn repeat<'s>(
     if payload.len() != PAYLOAD {
         return Asked::Nothing;
     }
+    let buttons = Buttons {
+        hasbutton,
+        values,
+        times,
+        marks,
+    };
     Asked::Repeat(clock::repeat(
         head,
         codes,
         names,
         renames,
-        hasbutton,
-        values,
-        times,
-        marks,
+        &buttons,
         wire::read8(payload, 0),
         wire::read8(payload, 8),
         wire::read8(payload, 16),

@@ -1,8 +1,7 @@
 -- What stands between two operations, with the text so far, and what an operation prints behind it. Definitions, and the laws that its code goes by.
-use Rattle.std.specs.Prelude.{ℕ, Bool, true, false, cond, not, List, [], ◌∷◌, ◌≡◌, eqb}
+use Rattle.std.specs.Prelude.{ℕ, Bool, true, false, cond, not, List, [], ◌∷◌, ◌≡◌, eqb, Err, Ok}
 use Rattle.std.proofs.Common.{ap}
 use Rattle.rules.specs.declared.Hub.{Hub}
-use Rattle.rules.specs.declared.Answer.TheVariants as answer
 use Rattle.hub.specs.declared.Head.{Head}
 use Rattle.lines.specs.Letters.{B, H, N, O, U, space, newline}
 use Rattle.replay_answers.specs.declared.Asked.{Asked}
@@ -34,8 +33,8 @@ text-is stands head e = ap (λ (w : Written). record { stands = stands; head = h
 
 -- `new` was an operation of the form, and was not refused
 abbrev pub begun_of : Changed → Bool
-begun_of (changed.Begun answer.Done) = true
-begun_of (changed.Begun (answer.Refused number)) = false
+begun_of (changed.Begun (Ok tt)) = true
+begun_of (changed.Begun (Err e)) = false
 begun_of (changed.Registered a) = false
 begun_of (changed.Renamed a) = false
 begun_of (changed.Pumped a) = false

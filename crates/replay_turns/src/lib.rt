@@ -15,11 +15,11 @@ use columns::{Marks, QueueBytes, QueueCodes, Times, Values};
 use hub::Head;
 use replay_answers::{Changed, Told};
 use replay_desk::NEW;
-use rules::Answer;
 
+// an opcode, and no enum of them, since `changes_of` of specs/Changed.antt speaks of their numbers
 const DUMP: u8 = 24;
 
-// Between two operations: whether a hub stands, its head, and the place behind the text so far.
+// Between two operations: whether a hub stands, its head, and the place behind the text so far. No Option: `shown` and `queried_of` of specs/Shown.antt name each.
 #[derive(Clone, Copy)]
 pub struct Game {
     pub stands: bool,
@@ -34,17 +34,7 @@ pub struct Game {
 pub fn changes(stands: bool, opcode: u8) -> bool
     ensures { result ≡ changes_of stands opcode }
 {
-    if opcode == NEW {
-        return true;
-    }
-    if !stands {
-        return false;
-    }
-    let sets = replay_desk::sets_up(opcode);
-    if sets {
-        return true;
-    }
-    replay_events::sends(opcode)
+    opcode == NEW || stands && (replay_desk::sets_up(opcode) || replay_events::sends(opcode))
 }
 
 // An operation that changes the hub.
@@ -74,58 +64,40 @@ pub fn change(
         queuebytes.old queuecodes.old)) opcode payload.now out.old }
 {
     if replay_desk::sets_up(opcode) {
-        return replay_desk::set_up(
+        replay_desk::set_up(
             head, codes, kinds, names, renames, hasbutton, hasaxis, values, times, marks,
             queuebytes, queuecodes, opcode, payload,
-        );
+        )
+    } else {
+        replay_events::send(
+            head, codes, kinds, names, renames, hasbutton, hasaxis, values, times, marks,
+            queuebytes, queuecodes, opcode, payload, out,
+        )
     }
-    replay_events::send(
-        head, codes, kinds, names, renames, hasbutton, hasaxis, values, times, marks, queuebytes,
-        queuecodes, opcode, payload, out,
-    )
 }
 
 // Whether a hub stands after `new`: it may have been refused, or be no operation of the form.
 fn begun(answer: Changed) -> bool
     ensures { result ≡ begun_of answer }
 {
-    match answer {
-        Changed::Begun(a) => match a {
-            Answer::Done => true,
-            Answer::Refused(_) => false,
-        },
-        Changed::Registered(_) => false,
-        Changed::Renamed(_) => false,
-        Changed::Pumped(_) => false,
-        Changed::Reported(_, _) => false,
-        Changed::Updated(_) => false,
-        Changed::Inserted(_) => false,
-        Changed::Counter(_) => false,
-        Changed::Nothing => false,
-    }
+    matches!(answer, Changed::Begun(Ok(())))
 }
 
 // Whether a hub stands after an operation that changes it.
 fn stands_after(opcode: u8, answer: Changed) -> bool
     ensures { result ≡ stands_after opcode answer }
 {
-    if opcode == NEW {
-        return begun(answer);
-    }
-    true
+    opcode != NEW || begun(answer)
 }
 
 // The lines of what an operation that changes the hub told.
 pub fn after(told: Told, opcode: u8, out: &[u8], text: &mut [u8], at: usize) -> Game
     ensures { shown result text.new ≡ after_of told opcode out.now (written text.old at) }
 {
-    let head = told.head;
-    let answer = told.answer;
-    let next = replay_lines::call_lines(text, at, out, answer);
     Game {
-        stands: stands_after(opcode, answer),
-        head,
-        at: next,
+        stands: stands_after(opcode, told.answer),
+        head: told.head,
+        at: replay_lines::call_lines(text, at, out, told.answer),
     }
 }
 
@@ -135,12 +107,7 @@ pub fn after(told: Told, opcode: u8, out: &[u8], text: &mut [u8], at: usize) -> 
 fn behind(g: Game, at: usize) -> Game
     ensures { result ≡ behind_of g at }
 {
-    let head = g.head;
-    Game {
-        stands: g.stands,
-        head,
-        at: at,
-    }
+    Game { at, ..g }
 }
 
 // The dump, or a query; without a hub it says so.

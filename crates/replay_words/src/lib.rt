@@ -15,7 +15,7 @@ use rules::{AxisData, ButtonData};
 pub fn bit(b: bool) -> u64
     ensures { result ≡ bit_of b }
 {
-    if b { 1 } else { 0 }
+    u64::from(b)
 }
 
 // ---- records

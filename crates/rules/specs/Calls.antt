@@ -1,28 +1,22 @@
 -- The public calls that change the hub, but the pump: new, register, register_archived, rename, update, insert_event, inc and reset_counter. A refusal leaves
 -- the hub as it was. Definitions only.
-use Rattle.std.specs.Prelude.{ℕ, zero, suc, ◌+◌, ◌-◌, ◌*◌, Bool, true, false, cond, not, List, [], ◌∷◌, map, length, get_or, set, replicate, eqb, ltb, leb, Float}
+use Rattle.std.specs.Prelude.{ℕ, zero, suc, ◌+◌, ◌*◌, Bool, true, false, cond, not, List, [], ◌∷◌, map, get_or, set, replicate, eqb, ltb, Float, Err, None, Ok, Option, Some}
 use Rattle.numbers.specs.Constants.{zero32, one32}
 use Rattle.rules.specs.declared.Hub.{Hub}
 use Rattle.rules.specs.declared.Event.{Event}
 use Rattle.rules.specs.declared.EventForm.{EventForm}
-use Rattle.rules.specs.declared.EventRead.{EventRead}
-use Rattle.rules.specs.declared.EventRead.TheVariants as event_read
 use Rattle.rules.specs.declared.ButtonData.{ButtonData}
 use Rattle.rules.specs.declared.AxisData.{AxisData}
 use Rattle.rules.specs.declared.Slot.{Slot}
 use Rattle.rules.specs.declared.Row.{Row}
 use Rattle.rules.specs.declared.Element.{Element}
-use Rattle.rules.specs.declared.Answer.{Answer}
-use Rattle.rules.specs.declared.Answer.TheVariants as answer
 use Rattle.rules.specs.declared.Answered.{Answered}
-use Rattle.rules.specs.declared.RegisterAnswer.{RegisterAnswer}
-use Rattle.rules.specs.declared.RegisterAnswer.TheVariants as register_answer
 use Rattle.rules.specs.declared.Registered.{Registered}
 use Rattle.rules.specs.Names.{pad_limit, places_per_pad, nowhere, no_name, queue_room, flags_per_pad}
 use Rattle.rules.specs.Forms.{read_event}
 use Rattle.rules.specs.Sheets.{sheet_refusal, hats_of, count_of, rename_list_refusal}
 use Rattle.rules.specs.Places.{place_of, no_element, rows_of, converts_of, cleared_of, one_if}
-use Rattle.rules.specs.Refusals.{thresholds_refusal, is_registered, form_refusal, insert_refusal, first, unless_fits}
+use Rattle.rules.specs.Refusals.{thresholds_refusal, is_registered, form_refusal, insert_refusal, first, unless_fits, numbered}
 use Rattle.rules.specs.Events.{form_event}
 use Rattle.rules.specs.State.{next_counter}
 use Rattle.rules.specs.Setters.{with_counter, with_sheet, with_rows, with_names, with_marks, with_state, with_down, with_flags, with_queue}
@@ -82,8 +76,8 @@ unfolding fresh_hub
 idle_hub = fresh_hub one32 zero32 false false false
 
 abbrev pub new_by : ℕ → Hub → Answered
-new_by zero h = record { hub = h; answer = answer.Done }
-new_by (suc number) h = record { hub = idle_hub; answer = answer.Refused (suc number) }
+new_by zero h = record { hub = h; answer = Ok tt }
+new_by (suc number) h = record { hub = idle_hub; answer = Err (numbered (suc number)) }
 
 unfoldable pub new_of : Float → Float → Bool → Bool → Bool → Answered
 unfolding thresholds_refusal fresh_hub idle_hub
@@ -132,8 +126,8 @@ register_refusal archived pads s = first (unless_fits (ltb pads pad_limit) 2) (s
 
 abbrev pub register_by : ℕ → Hub → List ℕ → Registered
 register_by zero h s =
-    record { hub = registered_at h h.pads (hats_of s) (count_of s) (rows_of s (count_of s)); answer = register_answer.Pad h.pads }
-register_by (suc number) h s = record { hub = h; answer = register_answer.Refused (suc number) }
+    record { hub = registered_at h h.pads (hats_of s) (count_of s) (rows_of s (count_of s)); answer = Ok h.pads }
+register_by (suc number) h s = record { hub = h; answer = Err (numbered (suc number)) }
 
 unfoldable pub register_as : Bool → Hub → List ℕ → Registered
 unfolding register_refusal registered_at hats_of count_of rows_of
@@ -174,8 +168,8 @@ rename_refusal h p list =
     (first (unless_fits (get_or h.connected p false) 7) (rename_list_refusal list (get_or h.counts p 0)))
 
 abbrev pub rename_by : ℕ → Hub → ℕ → List ℕ → Answered
-rename_by zero h p list = record { hub = renamed_at h p (renames_of h p list); answer = answer.Done }
-rename_by (suc number) h p list = record { hub = h; answer = answer.Refused (suc number) }
+rename_by zero h p list = record { hub = renamed_at h p (renames_of h p list); answer = Ok tt }
+rename_by (suc number) h p list = record { hub = h; answer = Err (numbered (suc number)) }
 
 unfoldable pub rename_of : Hub → ℕ → List ℕ → Answered
 unfolding rename_refusal renamed_at renames_of
@@ -188,12 +182,12 @@ abbrev pub form_place : Hub → EventForm → ℕ
 form_place h f = place_in h f.pad f.code
 
 abbrev pub update_form_by : ℕ → Hub → EventForm → Answered
-update_form_by zero h f = record { hub = updated_of true h (form_event f); answer = answer.Done }
-update_form_by (suc number) h f = record { hub = h; answer = answer.Refused (suc number) }
+update_form_by zero h f = record { hub = updated_of true h (form_event f); answer = Ok tt }
+update_form_by (suc number) h f = record { hub = h; answer = Err (numbered (suc number)) }
 
-abbrev pub update_by : EventRead → Hub → Answered
-update_by (event_read.Form f) h = update_form_by (form_refusal f h.pads (form_place h f)) h f
-update_by event_read.Malformed h = record { hub = h; answer = answer.Refused 8 }
+abbrev pub update_by : Option EventForm → Hub → Answered
+update_by (Some f) h = update_form_by (form_refusal f h.pads (form_place h f)) h f
+update_by None h = record { hub = h; answer = Err (numbered 8) }
 
 unfoldable pub update_of : Hub → List ℕ → Answered
 unfolding read_event form_refusal place_of updated_of form_event
@@ -206,12 +200,12 @@ inserted_at h e =
     with_queue h (queue_after h.queue h.head h.waiting (e ∷ [])) h.head (waiting_after h.waiting (e ∷ []))
 
 abbrev pub insert_form_by : ℕ → Hub → EventForm → Answered
-insert_form_by zero h f = record { hub = inserted_at h (form_event f); answer = answer.Done }
-insert_form_by (suc number) h f = record { hub = h; answer = answer.Refused (suc number) }
+insert_form_by zero h f = record { hub = inserted_at h (form_event f); answer = Ok tt }
+insert_form_by (suc number) h f = record { hub = h; answer = Err (numbered (suc number)) }
 
-abbrev pub insert_by : EventRead → Hub → Answered
-insert_by (event_read.Form f) h = insert_form_by (insert_refusal f h.pads (form_place h f) h.waiting) h f
-insert_by event_read.Malformed h = record { hub = h; answer = answer.Refused 8 }
+abbrev pub insert_by : Option EventForm → Hub → Answered
+insert_by (Some f) h = insert_form_by (insert_refusal f h.pads (form_place h f) h.waiting) h f
+insert_by None h = record { hub = h; answer = Err (numbered 8) }
 
 unfoldable pub insert_of : Hub → List ℕ → Answered
 unfolding read_event insert_refusal place_of inserted_at form_event

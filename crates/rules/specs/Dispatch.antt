@@ -1,5 +1,5 @@
 -- Dispatch: what a raw record gives, gilrs's `next_event_priv`. Definitions only.
-use Rattle.std.specs.Prelude.{ℕ, Bool, true, false, cond, not, ◌&&◌, eqb, ℤ, Float}
+use Rattle.std.specs.Prelude.{ℕ, Bool, true, false, cond, not, ◌&&◌, eqb, Float}
 use Rattle.std.specs.Float.Ieee.{le}
 use Rattle.numbers.specs.Constants.{zero32, one32}
 use Rattle.numbers.specs.Scale.{axis_scaled_of, button_scaled_of}

@@ -1,18 +1,16 @@
 -- Document 01's padlog example, end to end, as a run of the definitions: one axis element 0x00030010, name 39, -1..1, hats 0; values -1 at 100, 1 at 200.
 -- Computed by the checker.
-use Rattle.std.specs.Prelude.{ℕ, ◌*◌, ◌≡◌, refl, true, false, List, [], ◌∷◌, ◌++◌, replicate, take, pos, negsuc, Float}
+use Rattle.std.specs.Prelude.{ℕ, ◌≡◌, refl, true, false, List, [], ◌∷◌, ◌++◌, replicate, pos, negsuc}
 use Rattle.std.specs.Float.Ieee as Ieee
 use Rattle.std.specs.Float.{binary32}
 use Rattle.std.specs.Float.Ieee.{of_bits}
 use Rattle.numbers.specs.Constants.{zero32, one32}
 use Rattle.rules.specs.declared.Hub.{Hub}
-use Rattle.rules.specs.declared.Event.{Event}
 use Rattle.rules.specs.declared.EventType.{EventType}
 use Rattle.rules.specs.declared.EventType.TheVariants.{Pressed, Released, Changed}
-use Rattle.rules.specs.declared.PumpAnswer.{PumpAnswer}
 use Rattle.rules.specs.declared.PumpAnswer.TheVariants.{Drained}
 use Rattle.rules.specs.Names.{code_left, code_right, dpad_left, dpad_right, dpad_x}
-use Rattle.rules.specs.Forms.{record_bytes, kind_axis, event_size}
+use Rattle.rules.specs.Forms.{record_bytes, kind_axis}
 use Rattle.rules.specs.Sheets.{sheet_bytes, element_axis}
 use Rattle.rules.specs.Events.{event_bytes}
 use Rattle.rules.specs.Pump.{Run, pump_of}

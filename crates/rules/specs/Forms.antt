@@ -1,13 +1,8 @@
 -- The byte forms of document 01, "ours, big-endian": fields, then sheets, raw records and events as bytes read and as bytes written.
 -- Definitions only.
-use Rattle.std.specs.Prelude.{ℕ, zero, suc, ◌+◌, ◌-◌, ◌*◌, ◌/◌, ◌%◌, ◌^◌, Bool, true, false, cond, not, ◌&&◌, ◌||◌, List, [], ◌∷◌, ◌++◌, length, get_or, replicate, eqb, ltb, leb, ℤ, pos, negsuc}
+use Rattle.std.specs.Prelude.{ℕ, zero, suc, ◌+◌, ◌-◌, ◌*◌, ◌/◌, ◌%◌, ◌^◌, Bool, true, false, cond, ◌&&◌, ◌||◌, List, [], ◌∷◌, ◌++◌, length, get_or, eqb, ltb, leb, ℤ, pos, negsuc, None, Option, Some}
 use Rattle.rules.specs.declared.RawRecord.{RawRecord}
-use Rattle.rules.specs.declared.RecordRead.{RecordRead}
-use Rattle.rules.specs.declared.RecordRead.TheVariants as record_read
 use Rattle.rules.specs.declared.EventForm.{EventForm}
-use Rattle.rules.specs.declared.EventRead.{EventRead}
-use Rattle.rules.specs.declared.EventRead.TheVariants as event_read
-use Rattle.rules.specs.declared.SheetElement.{SheetElement}
 use Rattle.rules.specs.Names.{is_button, is_axis, no_name}
 
 -- ---- fields
@@ -82,11 +77,11 @@ unfolding field_of opens record_kind_fits
 record_fits s at =
     leb record_size (length s - at) && (opens s at record_size && record_kind_fits (get_or s (at + 3) 0) (field_of s (at + 5) 4) (field_of s (at + 9) 4))
 
-abbrev pub pick_record : Bool → RawRecord → RecordRead
-pick_record true r = record_read.Record r
-pick_record false r = record_read.Malformed
+abbrev pub pick_record : Bool → RawRecord → Option RawRecord
+pick_record true r = Some r
+pick_record false r = None
 
-unfoldable pub read_record : List ℕ → ℕ → RecordRead
+unfoldable pub read_record : List ℕ → ℕ → Option RawRecord
 unfolding record_fits record_fields
 read_record s at = pick_record (record_fits s at) (record_fields s at)
 
@@ -157,11 +152,11 @@ unfolding field_of opens event_kind_fits
 event_fits s =
     eqb (length s) event_size && (opens s 0 event_size && event_kind_fits (get_or s 3 0) (get_or s 5 0) (field_of s 6 4) (field_of s 10 4))
 
-abbrev pub pick_event : Bool → EventForm → EventRead
-pick_event true e = event_read.Form e
-pick_event false e = event_read.Malformed
+abbrev pub pick_event : Bool → EventForm → Option EventForm
+pick_event true e = Some e
+pick_event false e = None
 
-unfoldable pub read_event : List ℕ → EventRead
+unfoldable pub read_event : List ℕ → Option EventForm
 unfolding event_fits event_fields
 read_event s = pick_event (event_fits s) (event_fields s)
 

@@ -1,6 +1,6 @@
 -- What is read of the hub, and the queue of waiting events: a ring of 64 places, taken from the front without moving the others.
 -- Everything is defined on any hub, whatever its fields hold; past an array's end stands what the lists below say. Definitions only.
-use Rattle.std.specs.Prelude.{ℕ, zero, suc, ◌+◌, ◌-◌, ◌*◌, ◌%◌, Bool, true, false, cond, not, ◌&&◌, ◌||◌, List, [], ◌∷◌, ◌++◌, length, get_or, set, eqb, ltb, leb, Float}
+use Rattle.std.specs.Prelude.{ℕ, ◌+◌, ◌*◌, ◌%◌, Bool, false, cond, ◌&&◌, List, [], ◌∷◌, get_or, set, eqb, ltb, Float}
 use Rattle.std.specs.Float.{nan}
 use Rattle.rules.specs.declared.Hub.{Hub}
 use Rattle.rules.specs.declared.Event.{Event}
@@ -9,7 +9,7 @@ use Rattle.rules.specs.declared.Element.{Element}
 use Rattle.rules.specs.declared.ButtonData.{ButtonData}
 use Rattle.rules.specs.declared.AxisData.{AxisData}
 use Rattle.rules.specs.declared.View.{View}
-use Rattle.rules.specs.Names.{places_per_pad, pad_limit, nowhere, no_name, queue_room, flags_per_pad, flag_of, partner_of, is_hat, positive_code, negative_code}
+use Rattle.rules.specs.Names.{pad_limit, nowhere, no_name, queue_room, flags_per_pad, flag_of, partner_of, is_hat, positive_code, negative_code}
 use Rattle.rules.specs.Sheets.{element_axis, zoned_of}
 use Rattle.rules.specs.Places.{place_of, named_of, present_names}
 use Rattle.rules.specs.Events.{name_of, code_of, slot_of, event_of}

@@ -1,6 +1,6 @@
 -- Numbers and names, in the order of document 01's "Numbers": limits, directions, sorts of names, partners of axes, and the code that a button
 -- name falls back to. Definitions only.
-use Rattle.std.specs.Prelude.{ℕ, ◌+◌, ◌-◌, ◌*◌, Bool, true, false, cond, ◌&&◌, ◌||◌, List, [], ◌∷◌, get_or, eqb, ltb, leb}
+use Rattle.std.specs.Prelude.{ℕ, ◌+◌, ◌-◌, Bool, cond, ◌&&◌, ◌||◌, List, [], ◌∷◌, get_or, eqb, leb}
 
 -- ---- limits
 

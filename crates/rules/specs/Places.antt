@@ -1,7 +1,7 @@
 -- A pad's 52 places: where a code or a name stands, which names hold at present, how registration lays a sheet out in code order with the unlisted
 -- directions merged in, and when a pad converts. The lookup is a search and then a check, so that whatever the hub holds, a place that is found is the
 -- pad's and has the code. Definitions only.
-use Rattle.std.specs.Prelude.{ℕ, zero, suc, ◌+◌, ◌-◌, ◌*◌, ◌/◌, Bool, true, false, cond, not, ◌&&◌, ◌||◌, List, [], ◌∷◌, ◌++◌, length, get_or, set, eqb, ltb, leb}
+use Rattle.std.specs.Prelude.{ℕ, zero, suc, ◌+◌, ◌-◌, ◌*◌, ◌/◌, Bool, false, cond, not, ◌&&◌, ◌||◌, List, [], ◌∷◌, get_or, set, eqb, ltb, leb}
 use Rattle.numbers.specs.Constants.{zero32}
 use Rattle.numbers.specs.Scale.{low_of, range_of, odd_of, threshold_of}
 use Rattle.rules.specs.declared.SheetElement.{SheetElement}

@@ -1,14 +1,28 @@
 -- "Refusals by number": each as a condition, and the order in which a record, an event and the settings are judged. 0 is no refusal. The sheet's
 -- own refusals stand in Sheets. Definitions only.
-use Rattle.std.specs.Prelude.{ℕ, ◌+◌, ◌%◌, Bool, true, false, cond, not, ◌&&◌, ◌||◌, eqb, ltb, leb, Float}
+use Rattle.std.specs.Prelude.{ℕ, zero, suc, Result, Ok, Err, ◌%◌, Bool, cond, ◌&&◌, ◌||◌, eqb, ltb, leb, Float}
 use Rattle.std.specs.Float.Ieee.{lt, le}
 use Rattle.numbers.specs.Constants.{zero32, one32, within_of}
 use Rattle.rules.specs.declared.RawRecord.{RawRecord}
 use Rattle.rules.specs.declared.NextRecord.{NextRecord}
 use Rattle.rules.specs.declared.EventForm.{EventForm}
+use Rattle.rules.specs.declared.Refusal.{Refusal}
 use Rattle.rules.specs.Names.{pad_limit, nowhere, last_time, last_wait, buffer_limit, insert_limit, names_button, names_axis}
 use Rattle.rules.specs.Forms.{kind_axis, event_axis}
 use Rattle.rules.specs.Sheets.{element_button, element_axis}
+
+-- ---- an answer: the refusal of a number other than 0, else what was asked for
+
+abbrev pub numbered : ℕ → Refusal
+numbered number = record { number = number }
+
+abbrev pub answer_by : {A : Type 0} → ℕ → A → Result A Refusal
+answer_by zero x = Ok x
+answer_by (suc number) x = Err (numbered (suc number))
+
+-- that a call is served, or why not
+abbrev pub judged : ℕ → Result (Unit {0}) Refusal
+judged number = answer_by number tt
 
 -- ---- 1: "pressed <= released, either outside 0..1, or NaN"
 

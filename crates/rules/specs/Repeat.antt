@@ -1,13 +1,12 @@
 -- Repeat: gilrs's `Repeat`, with the clock as input and the order fixed: connected pads by number, codes rising. Definitions only.
-use Rattle.std.specs.Prelude.{ℕ, zero, suc, ◌+◌, ◌-◌, ◌*◌, ◌/◌, Bool, true, false, cond, ◌&&◌, List, get_or, eqb, ltb, leb}
+use Rattle.std.specs.Prelude.{ℕ, zero, suc, ◌+◌, ◌-◌, ◌/◌, Bool, true, false, cond, ◌&&◌, List, get_or, ltb, leb, Err, None, Ok, Option, Result, Some}
 use Rattle.rules.specs.declared.Hub.{Hub}
 use Rattle.rules.specs.declared.Event.{Event}
 use Rattle.rules.specs.declared.EventType.TheVariants.{Repeated}
 use Rattle.rules.specs.declared.ButtonData.{ButtonData}
-use Rattle.rules.specs.declared.RepeatAnswer.{RepeatAnswer}
-use Rattle.rules.specs.declared.RepeatAnswer.TheVariants as repeat_answer
+use Rattle.rules.specs.declared.Refusal.{Refusal}
 use Rattle.rules.specs.Names.{places_per_pad, nowhere}
-use Rattle.rules.specs.Refusals.{repeat_refusal}
+use Rattle.rules.specs.Refusals.{repeat_refusal, numbered}
 use Rattle.rules.specs.Places.{present_names}
 use Rattle.rules.specs.Dispatch.{button_name}
 use Rattle.rules.specs.Hub.{name_in, button_at, past_button}
@@ -44,12 +43,12 @@ unfoldable pub due_place : Hub → ℕ → ℕ → ℕ → ℕ
 unfolding first_due
 due_place h after every now = first_due h.connected h.hasbutton h.buttons after every now nowhere 0
 
-abbrev pub repeat_by : ℕ → Bool → Event → RepeatAnswer
-repeat_by zero true e = repeat_answer.Due e
-repeat_by zero false e = repeat_answer.Quiet
-repeat_by (suc number) found e = repeat_answer.Refused (suc number)
+abbrev pub repeat_by : ℕ → Bool → Event → Result (Option Event) Refusal
+repeat_by zero true e = Ok (Some e)
+repeat_by zero false e = Ok None
+repeat_by (suc number) found e = Err (numbered (suc number))
 
-unfoldable pub repeat_of : Hub → ℕ → ℕ → ℕ → RepeatAnswer
+unfoldable pub repeat_of : Hub → ℕ → ℕ → ℕ → Result (Option Event) Refusal
 unfolding repeat_refusal due_place repeated_at
 repeat_of h after every now =
     repeat_by (repeat_refusal after every now) (ltb (due_place h after every now) nowhere) (repeated_at h (due_place h after every now) after every)

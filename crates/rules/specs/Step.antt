@@ -1,11 +1,9 @@
 -- A step: it takes the queue's front, else the next raw record; the event passes the filters; what they queue waits; and the state is updated.
 -- Each stage sets the fields that it means. Definitions only.
-use Rattle.std.specs.Prelude.{ℕ, ◌+◌, ◌-◌, ◌*◌, ◌%◌, Bool, true, false, cond, not, ◌&&◌, ◌||◌, List, ◌++◌, set, eqb, ltb, pos}
+use Rattle.std.specs.Prelude.{ℕ, ◌+◌, ◌-◌, ◌*◌, ◌%◌, Bool, true, false, cond, ◌&&◌, ◌||◌, List, ◌++◌, set, eqb, ltb, pos, None, Option, Some}
 use Rattle.rules.specs.declared.Hub.{Hub}
 use Rattle.rules.specs.declared.Event.{Event}
 use Rattle.rules.specs.declared.RawRecord.{RawRecord}
-use Rattle.rules.specs.declared.RecordRead.{RecordRead}
-use Rattle.rules.specs.declared.RecordRead.TheVariants as record_read
 use Rattle.rules.specs.declared.NextRecord.{NextRecord}
 use Rattle.rules.specs.declared.Dispatched.{Dispatched}
 use Rattle.rules.specs.declared.Flags.{Flags}
@@ -28,9 +26,9 @@ use Rattle.rules.specs.Hub.{place_in, name_in, kind_at, element_at, button_at, a
 abbrev pub blank_record : RawRecord
 blank_record = record { kind = 0; pad = 0; code = 0; value = pos 0; time = 0 }
 
-abbrev pub next_record_by : RecordRead → NextRecord
-next_record_by (record_read.Record r) = record { raw = r; fits = true }
-next_record_by record_read.Malformed = record { raw = blank_record; fits = false }
+abbrev pub next_record_by : Option RawRecord → NextRecord
+next_record_by (Some r) = record { raw = r; fits = true }
+next_record_by None = record { raw = blank_record; fits = false }
 
 -- while something waits, no record is looked at
 unfoldable pub next_record_of : ℕ → List ℕ → ℕ → NextRecord

@@ -3,6 +3,9 @@
 
 // ---- the numbers of document 01
 
+// Kinds, names, zones and places are numbers here, and no enums: bytes and columns may hold any, columns cross to C, and the definitions of specs/ (Names, Forms,
+// Sheets, Zones) speak of the number.
+
 pub const PADS: u8 = 4;
 
 // a pad's places: 48 elements and the four directions
@@ -50,6 +53,10 @@ pub const NO_NAME: u8 = 255;
 // ---- a record, and an event
 
 pub const RECORD_SIZE: usize = 21;
+
+pub const KIND_PRESSED: u8 = 1;
+
+pub const KIND_RELEASED: u8 = 2;
 
 pub const KIND_AXIS: u8 = 3;
 
@@ -107,14 +114,8 @@ pub struct RawRecord {
     pub time: u64,
 }
 
-// What reading a raw record finds.
-#[derive(Clone, Copy)]
-pub enum RecordRead {
-    Record(RawRecord),
-    Malformed,
-}
-
-// The record that a step looks at: where the queue still holds something, or the record is malformed, a blank one.
+// The record that a step looks at: where the queue still holds something, or the record is malformed, a blank one. No Option: `next_record_of` tells the two apart,
+// and `record_refusal` reads both fields.
 #[derive(Clone, Copy)]
 pub struct NextRecord {
     pub raw: RawRecord,
@@ -130,13 +131,6 @@ pub struct EventForm {
     pub code: u32,
     pub bits: u32,
     pub time: u64,
-}
-
-// What reading an event finds.
-#[derive(Clone, Copy)]
-pub enum EventRead {
-    Form(EventForm),
-    Malformed,
 }
 
 // An element as its sheet lists it.
@@ -227,7 +221,8 @@ pub struct Hub {
 
 // ---- small values that a step gathers and decides on
 
-// What a raw record gives: an event, and where `follows` says so one more that is queued.
+// What a raw record gives: an event, and where `follows` says so one more that is queued. No Option here and below: the definitions of Dispatch, Filters and Hub
+// (`single`, `double`, `view_at`, `stick_zoned`) name flag and value apart.
 #[derive(Clone, Copy)]
 pub struct Dispatched {
     pub event: Event,
@@ -275,33 +270,29 @@ pub struct Zoned {
     pub flags: Flags,
 }
 
-// ---- answers
+// ---- answers: a call that is served answers `Ok`, and a query for what is absent `Ok(None)`
+
+// A refusal, by its number in document 01's table, and no enum: the definitions of Refusals and Sheets work the number out, 0 for none.
+#[derive(Clone, Copy)]
+pub struct Refusal {
+    pub number: u8,
+}
 
 // Of new, rename, update and insert_event.
 #[derive(Clone, Copy)]
-pub enum Answer {
-    Done,
-    Refused(u8),
-}
-
-#[derive(Clone, Copy)]
 pub struct Answered {
     pub hub: Hub,
-    pub answer: Answer,
+    pub answer: Result<(), Refusal>,
 }
 
-#[derive(Clone, Copy)]
-pub enum RegisterAnswer {
-    Pad(u8),
-    Refused(u8),
-}
-
+// Of register: the pad's number.
 #[derive(Clone, Copy)]
 pub struct Registered {
     pub hub: Hub,
-    pub answer: RegisterAnswer,
+    pub answer: Result<u8, Refusal>,
 }
 
+// Each holds the place in the batch, the events written and the steps made; a refusal's number stands before them. No Result: the refusal carries them too.
 #[derive(Clone, Copy)]
 pub enum PumpAnswer {
     Drained(usize, usize, usize),
@@ -316,50 +307,9 @@ pub struct Pumped {
     pub answer: PumpAnswer,
 }
 
-#[derive(Clone, Copy)]
-pub enum RepeatAnswer {
-    Due(Event),
-    Quiet,
-    Refused(u8),
-}
-
-#[derive(Clone, Copy)]
-pub enum TruthAnswer {
-    Is(bool),
-    Refused(u8),
-}
-
-#[derive(Clone, Copy)]
-pub enum ValueAnswer {
-    Value(f32),
-    Absent,
-    Refused(u8),
-}
-
-#[derive(Clone, Copy)]
-pub enum ButtonAnswer {
-    Data(ButtonData),
-    Absent,
-    Refused(u8),
-}
-
-#[derive(Clone, Copy)]
-pub enum AxisAnswer {
-    Data(AxisData),
-    Absent,
-    Refused(u8),
-}
-
-#[derive(Clone, Copy)]
-pub enum NumberAnswer {
-    Number(u32),
-    Absent,
-    Refused(u8),
-}
-
 // How many button records of a pad are pressed, and whether an axis element's is (W-213).
 #[derive(Clone, Copy)]
-pub enum DownAnswer {
-    Down(u8, bool),
-    Refused(u8),
+pub struct PadDown {
+    pub count: u8,
+    pub axis: bool,
 }

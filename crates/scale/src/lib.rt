@@ -29,10 +29,7 @@ const JITTER_LIMIT: f32 = 0.01;
 pub fn within(raw: i32) -> bool
     ensures { result ≡ within_of raw }
 {
-    if raw < LEAST {
-        return false;
-    }
-    raw < LIMIT
+    (LEAST..LIMIT).contains(&raw)
 }
 
 // whether a sheet's deadzone field is one that 01 allows
@@ -40,16 +37,13 @@ pub fn within(raw: i32) -> bool
 pub fn deadzone_within(deadzone: u32) -> bool
     ensures { result ≡ deadzone_within_of deadzone }
 {
-    if deadzone == ABSENT {
-        return true;
-    }
-    deadzone < DEADZONE_LIMIT
+    deadzone == ABSENT || deadzone < DEADZONE_LIMIT
 }
 
 // ---- what an axis element keeps of its min and max
 
 // An axis element's lowest value, as binary32.
-#[tactic(auto, unfolding(numbers::specs::Scale::low_of))]
+#[tactic(auto, using(crate::specs::Casts::cast_fits), unfolding(numbers::specs::Scale::low_of))]
 pub fn low_of(min: i32) -> f32
     requires { within_of min ≡ true }
     ensures { result ≡ low_of min }
@@ -58,7 +52,7 @@ pub fn low_of(min: i32) -> f32
 }
 
 // Its range, max - min, as binary32.
-#[tactic(auto, unfolding(numbers::specs::Scale::range_of))]
+#[tactic(auto, using(crate::specs::Casts::cast_fits), unfolding(numbers::specs::Scale::range_of))]
 pub fn range_of(min: i32, max: i32) -> f32
     requires { (within_of min ≡ true) × (within_of max ≡ true) }
     ensures { result ≡ range_of min max }
@@ -82,10 +76,7 @@ pub fn odd_of(min: i32, max: i32) -> bool
 fn plus_odd(odd: bool, x: f32) -> f32
     ensures { result ≡ plus_odd odd x }
 {
-    if odd {
-        return x + 1.0;
-    }
-    x
+    if odd { x + 1.0 } else { x }
 }
 
 // the Y rule
@@ -93,17 +84,11 @@ fn plus_odd(odd: bool, x: f32) -> f32
 fn turned(reversed: bool, x: f32) -> f32
     ensures { result ≡ turned_of reversed x }
 {
-    if !reversed {
-        return x;
-    }
-    if x != 0.0 {
-        return -x;
-    }
-    x
+    if reversed && x != 0.0 { -x } else { x }
 }
 
 // gilrs's `axis_value`
-#[tactic(auto, unfolding(numbers::specs::Scale::axis_scaled_of))]
+#[tactic(auto, using(crate::specs::Casts::cast_fits), unfolding(numbers::specs::Scale::axis_scaled_of))]
 pub fn axis_value(low: f32, range: f32, odd: bool, reversed: bool, raw: i32) -> f32
     requires { within_of raw ≡ true }
     ensures { result ≡ axis_scaled_of low range odd reversed raw }
@@ -114,7 +99,7 @@ pub fn axis_value(low: f32, range: f32, odd: bool, reversed: bool, raw: i32) -> 
 }
 
 // gilrs's `btn_value`
-#[tactic(auto, unfolding(numbers::specs::Scale::button_scaled_of))]
+#[tactic(auto, using(crate::specs::Casts::cast_fits), unfolding(numbers::specs::Scale::button_scaled_of))]
 pub fn button_value(low: f32, range: f32, raw: i32) -> f32
     requires { within_of raw ≡ true }
     ensures { result ≡ button_scaled_of low range raw }
@@ -131,9 +116,10 @@ pub fn threshold_of(min: i32, max: i32, deadzone: u32) -> f32
     ensures { result ≡ threshold_of min max deadzone }
 {
     if deadzone == ABSENT {
-        return DEFAULT_THRESHOLD;
+        DEFAULT_THRESHOLD
+    } else {
+        (deadzone as f32) / range_of(min, max) * 2.0
     }
-    (deadzone as f32) / range_of(min, max) * 2.0
 }
 
 // "at or below the threshold"
@@ -150,12 +136,13 @@ fn shrunk_by(m: f32, threshold: f32, x: f32, y: f32) -> Pair
     ensures { result ≡ shrunk_of (inside_of m threshold) (norm_of m threshold) x y }
 {
     if inside(m, threshold) {
-        return Pair { x: 0.0, y: 0.0 };
-    }
-    let norm = ((m - threshold) / (1.0 - threshold)) / m;
-    Pair {
-        x: x * norm,
-        y: y * norm,
+        Pair { x: 0.0, y: 0.0 }
+    } else {
+        let norm = ((m - threshold) / (1.0 - threshold)) / m;
+        Pair {
+            x: x * norm,
+            y: y * norm,
+        }
     }
 }
 
@@ -164,27 +151,25 @@ fn shrunk_by(m: f32, threshold: f32, x: f32, y: f32) -> Pair
 pub fn shrink_value(x: f32, threshold: f32) -> f32
     ensures { result ≡ (deadzone_of x zero32 threshold).x }
 {
-    if threshold == 0.0 {
-        if 0.0 < x * x + 0.0 * 0.0 {
-            return x;
-        }
+    if threshold == 0.0 && 0.0 < x * x + 0.0 * 0.0 {
+        x
+    } else {
+        shrunk_by(binary32::magnitude(x, 0.0), threshold, x, 0.0).x
     }
-    let pair = shrunk_by(binary32::magnitude(x, 0.0), threshold, x, 0.0);
-    pair.x
 }
 
 // Which of three a magnitude is: inside the dead zone, at full tilt, or in between.
 #[tactic(auto, unfolding(numbers::specs::Tilt::tilt_at))]
-fn tilt_by(m: f32, threshold: f32) -> Tilt
-    ensures { result ≡ tilt_at m threshold }
+fn tilt_by(magnitude: f32, threshold: f32) -> Tilt
+    ensures { result ≡ tilt_at magnitude threshold }
 {
-    if !inside(m, threshold) {
-        if m == 1.0 {
-            return Tilt::Full;
-        }
-        return Tilt::Between;
+    if inside(magnitude, threshold) {
+        Tilt::Inside
+    } else if magnitude == 1.0 {
+        Tilt::Full
+    } else {
+        Tilt::Between
     }
-    Tilt::Inside
 }
 
 // gilrs's `apply_deadzone`, and which of the three it was. Full tilt needs no root: where the squares reach 1 the magnitude is held to 1, and a threshold from 0 up
@@ -193,15 +178,11 @@ fn tilt_by(m: f32, threshold: f32) -> Tilt
 pub fn apply_deadzone(x: f32, y: f32, threshold: f32) -> Tilted
     ensures { result ≡ tilted_of x y threshold }
 {
-    if 1.0 <= x * x + y * y {
-        if 0.0 <= threshold {
-            if !inside(1.0, threshold) {
-                return Tilted {
-                    pair: Pair { x: x, y: y },
-                    tilt: Tilt::Full,
-                };
-            }
-        }
+    if 1.0 <= x * x + y * y && 0.0 <= threshold && !inside(1.0, threshold) {
+        return Tilted {
+            pair: Pair { x, y },
+            tilt: Tilt::Full,
+        };
     }
     let m = binary32::magnitude(x, y);
     Tilted {
@@ -212,15 +193,12 @@ pub fn apply_deadzone(x: f32, y: f32, threshold: f32) -> Tilted
 
 // ---- jitter
 
-// gilrs's `abs`, as a comparison
+// gilrs's `abs`, as a comparison: it leaves -0.0 and a NaN as they are, which `f32::abs` does not.
 #[tactic(auto, unfolding(numbers::specs::Jitter::abs_of))]
 fn abs(x: f32) -> f32
     ensures { result ≡ abs_of x }
 {
-    if x < 0.0 {
-        return -x;
-    }
-    x
+    if x < 0.0 { -x } else { x }
 }
 
 // the test of gilrs's `Jitter`
@@ -228,8 +206,5 @@ fn abs(x: f32) -> f32
 pub fn jitters(value: f32, stored: f32) -> bool
     ensures { result ≡ jitter_of value stored }
 {
-    if value != 0.0 {
-        return abs(value - stored) < JITTER_LIMIT;
-    }
-    false
+    value != 0.0 && abs(value - stored) < JITTER_LIMIT
 }

@@ -1,31 +1,13 @@
 // The records of a code after an event, and what is read of them: gilrs's `GamepadState`.
 #![tactic(auto)]
 
-ghost use Rattle.std.specs.Prelude.{◌≡◌, cond};
+ghost use Rattle.std.specs.Prelude.{◌≡◌};
 ghost use Rattle.rules.specs.State.{button_after, axis_after, writes_button, writes_axis, read_pressed, read_value, next_counter};
 
+use choices::chosen;
 use rules::{AxisData, ButtonData, Event, EventType};
 
-// ---- a new record and a known one
-
-// what a known record keeps, and what a new one starts from
-fn kept_value(known: bool, kept: f32, fresh: f32) -> f32
-    ensures { result ≡ cond known kept fresh }
-{
-    if known { kept } else { fresh }
-}
-
-fn kept_time(known: bool, kept: u64, fresh: u64) -> u64
-    ensures { result ≡ cond known kept fresh }
-{
-    if known { kept } else { fresh }
-}
-
-fn kept_mark(known: bool, kept: bool, fresh: bool) -> bool
-    ensures { result ≡ cond known kept fresh }
-{
-    if known { kept } else { fresh }
-}
+// A record and whether it stands are two parameters, and no Option: `button_after`, `read_pressed` and `read_value` of State.antt take both, as the hub keeps both.
 
 // ---- the button record: gilrs's `set_btn_pressed`, `set_btn_repeating`, `set_btn_value`, and since when it is held
 
@@ -35,45 +17,41 @@ fn kept_mark(known: bool, kept: bool, fresh: bool) -> bool
 pub fn button_after(e: Event, known: bool, b: ButtonData, counter: u64) -> ButtonData
     ensures { result ≡ button_after e known b counter }
 {
-    let kept = kept_time(known, b.since, 0);
-    let t = e.event;
-    match t {
+    let kept = chosen(known, b.since, 0);
+    match e.event {
         EventType::Pressed(_, _) => ButtonData {
-            value: kept_value(known, b.value, 1.0),
+            value: chosen(known, b.value, 1.0),
             stamp: e.time,
-            counter: counter,
+            counter,
             pressed: true,
             repeating: false,
-            since: kept_time(read_pressed(known, b), b.since, e.time),
+            since: chosen(read_pressed(known, b), b.since, e.time),
         },
         EventType::Released(_, _) => ButtonData {
-            value: kept_value(known, b.value, 0.0),
+            value: chosen(known, b.value, 0.0),
             stamp: e.time,
-            counter: counter,
+            counter,
             pressed: false,
             repeating: false,
             since: kept,
         },
         EventType::Repeated(_, _) => ButtonData {
-            value: kept_value(known, b.value, 1.0),
+            value: chosen(known, b.value, 1.0),
             stamp: e.time,
-            counter: counter,
-            pressed: kept_mark(known, b.pressed, true),
+            counter,
+            pressed: chosen(known, b.pressed, true),
             repeating: true,
-            since: kept_time(known, b.since, e.time),
+            since: chosen(known, b.since, e.time),
         },
         EventType::Changed(_, _, v) => ButtonData {
             value: v,
             stamp: e.time,
-            counter: counter,
-            pressed: kept_mark(known, b.pressed, false),
-            repeating: kept_mark(known, b.repeating, false),
+            counter,
+            pressed: chosen(known, b.pressed, false),
+            repeating: chosen(known, b.repeating, false),
             since: kept,
         },
-        EventType::Axis(_, _, _) => b,
-        EventType::Connected => b,
-        EventType::Disconnected => b,
-        EventType::Dropped => b,
+        _ => b,
     }
 }
 
@@ -82,17 +60,13 @@ pub fn button_after(e: Event, known: bool, b: ButtonData, counter: u64) -> Butto
 pub fn writes_button(e: Event) -> bool
     ensures { result ≡ writes_button e }
 {
-    let t = e.event;
-    match t {
-        EventType::Pressed(_, _) => true,
-        EventType::Released(_, _) => true,
-        EventType::Repeated(_, _) => true,
-        EventType::Changed(_, _, _) => true,
-        EventType::Axis(_, _, _) => false,
-        EventType::Connected => false,
-        EventType::Disconnected => false,
-        EventType::Dropped => false,
-    }
+    matches!(
+        e.event,
+        EventType::Pressed(..)
+            | EventType::Released(..)
+            | EventType::Repeated(..)
+            | EventType::Changed(..)
+    )
 }
 
 // ---- the axis record: gilrs's `update_axis`
@@ -102,20 +76,13 @@ pub fn writes_button(e: Event) -> bool
 pub fn axis_after(e: Event, a: AxisData, counter: u64) -> AxisData
     ensures { result ≡ axis_after e a counter }
 {
-    let t = e.event;
-    match t {
+    match e.event {
         EventType::Axis(_, _, v) => AxisData {
             value: v,
             stamp: e.time,
-            counter: counter,
+            counter,
         },
-        EventType::Pressed(_, _) => a,
-        EventType::Released(_, _) => a,
-        EventType::Repeated(_, _) => a,
-        EventType::Changed(_, _, _) => a,
-        EventType::Connected => a,
-        EventType::Disconnected => a,
-        EventType::Dropped => a,
+        _ => a,
     }
 }
 
@@ -124,17 +91,7 @@ pub fn axis_after(e: Event, a: AxisData, counter: u64) -> AxisData
 pub fn writes_axis(e: Event) -> bool
     ensures { result ≡ writes_axis e }
 {
-    let t = e.event;
-    match t {
-        EventType::Axis(_, _, _) => true,
-        EventType::Pressed(_, _) => false,
-        EventType::Released(_, _) => false,
-        EventType::Repeated(_, _) => false,
-        EventType::Changed(_, _, _) => false,
-        EventType::Connected => false,
-        EventType::Disconnected => false,
-        EventType::Dropped => false,
-    }
+    matches!(e.event, EventType::Axis(..))
 }
 
 // ---- reads
@@ -144,7 +101,7 @@ pub fn writes_axis(e: Event) -> bool
 pub fn read_pressed(known: bool, b: ButtonData) -> bool
     ensures { result ≡ read_pressed known b }
 {
-    kept_mark(known, b.pressed, false)
+    known && b.pressed
 }
 
 // "Reading a code looks at axes first": gilrs's `value`
@@ -152,7 +109,7 @@ pub fn read_pressed(known: bool, b: ButtonData) -> bool
 pub fn read_value(axisknown: bool, a: AxisData, buttonknown: bool, b: ButtonData) -> f32
     ensures { result ≡ read_value axisknown a buttonknown b }
 {
-    kept_value(axisknown, a.value, kept_value(buttonknown, b.value, 0.0))
+    chosen(axisknown, a.value, chosen(buttonknown, b.value, 0.0))
 }
 
 // ---- "The counter goes from 2^62-1 to 0": gilrs's `inc`

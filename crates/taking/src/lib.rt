@@ -6,11 +6,11 @@ ghost use Rattle.std.specs.Prelude.{◌≡◌};
 ghost use Rattle.columns.specs.Columns.{elements_of, buttons_of, slots_of};
 ghost use Rattle.taking.specs.Taking.{taking_hub, TakenIs};
 
-use columns::{Marks, QueueBytes, QueueCodes, Times, Values};
+use hub::{Listing, Seen};
 use rules::{Event, EventType, RECORD_SIZE};
 
 // What a step takes: the record's refusal, 0 where there is none; the record's pad and kind, blank for the queue's front; the event, the place of its code, and
-// what the record queues behind it; and where batch and queue stand once it is taken.
+// what the record queues behind it; and where batch and queue stand once it is taken. No Result and no Option: `gives_of` and the laws of specs/Taking.antt name each field.
 #[derive(Clone, Copy)]
 pub struct Taken {
     pub number: u8,
@@ -51,18 +51,10 @@ fn refused(number: u8) -> Taken
 
 // Where something waits no record is looked at.
 #[tactic(auto, unfolding(rules::specs::Calls::fresh_hub))]
-pub fn take<'a>(
-    codes: &'a [u32; 208],
-    kinds: &'a [u8; 208],
-    names: &'a [u8; 208],
-    renames: &'a [u8; 208],
-    renamed: &'a [bool; 4],
-    hasbutton: &'a [bool; 208],
-    values: &'a Values,
-    times: &'a Times,
-    marks: &'a Marks,
-    queuebytes: &'a QueueBytes,
-    queuecodes: &'a QueueCodes,
+pub fn take(
+    listed: &Listing<'_>,
+    renamed: &[bool; 4],
+    lent: &Seen<'_>,
     batch: &[u8],
     at: usize,
     waiting: u8,
@@ -72,22 +64,29 @@ pub fn take<'a>(
     released: f32,
     reversed: bool,
 ) -> Taken
-    ensures { TakenIs (taking_hub codes.now kinds.now names.now renames.now renamed.now
-        hasbutton.now (elements_of values.now marks.now)
-        (buttons_of values.now times.now marks.now)
-        (slots_of values.now times.now queuebytes.now queuecodes.now)
+    ensures { let s = listed.now in let c = lent.now in
+        TakenIs (taking_hub s.codes.now s.kinds.now s.names.now s.renames.now renamed.now
+        c.hasbutton.now (elements_of c.values.now c.marks.now)
+        (buttons_of c.values.now c.times.now c.marks.now)
+        (slots_of c.values.now c.times.now c.queuebytes.now c.queuecodes.now)
         pads pressed released reversed head waiting) batch.now at result }
 {
     if 0 < waiting {
         let front = turn::front(head);
-        let slot = columns::slot_at(values, times, queuebytes, queuecodes, front);
+        let slot = columns::slot_at(
+            lent.values,
+            lent.times,
+            lent.queuebytes,
+            lent.queuecodes,
+            front,
+        );
         let e = events::event_of(slot);
         let code = events::code_of(e);
         return Taken {
             number: 0,
             pad: 0,
             kind: 0,
-            place: pad::place_of(codes, e.pad, code),
+            place: pad::place_of(listed.codes, e.pad, code),
             event: e,
             follows: false,
             next: e,
@@ -99,15 +98,22 @@ pub fn take<'a>(
     let l = wire::next_record(batch, at, waiting);
     let raw = l.raw;
     let found = gather::find(
-        codes, kinds, names, renames, renamed, hasbutton, raw.pad, raw.code,
+        listed.codes,
+        listed.kinds,
+        listed.names,
+        listed.renames,
+        renamed,
+        lent.hasbutton,
+        raw.pad,
+        raw.code,
     );
     let number = refusals::record_refusal(l, pads, found.kind);
     if 0 < number {
         return refused(number);
     }
     let place = found.place;
-    let element = columns::element_at(values, marks, place);
-    let b = columns::button_at(values, times, marks, place);
+    let element = columns::element_at(lent.values, lent.marks, place);
+    let b = columns::button_at(lent.values, lent.times, lent.marks, place);
     let held = state::read_pressed(found.hasbutton, b);
     let d = dispatch::dispatch(raw, found.name, element, held, pressed, released, reversed);
     let e = d.event;

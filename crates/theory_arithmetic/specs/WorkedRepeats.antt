@@ -1,13 +1,12 @@
 -- How often a held button repeats until now, when each repeat that is answered is handed back to the hub: 01's `repeat` and `update` in turn.
 -- Definitions only.
-use Rattle.std.specs.Prelude.{ℕ, zero, suc, true, false, List, [], ◌∷◌, pos}
+use Rattle.std.specs.Prelude.{ℕ, zero, suc, true, false, List, [], ◌∷◌, pos, Err, None, Ok, Option, Result, Some}
 use Rattle.std.specs.Float.Ieee as Ieee
 use Rattle.std.specs.Float.{binary32}
 use Rattle.rules.specs.declared.Hub.{Hub}
 use Rattle.rules.specs.declared.Event.{Event}
 use Rattle.rules.specs.declared.EventType.TheVariants.{Pressed}
-use Rattle.rules.specs.declared.RepeatAnswer.{RepeatAnswer}
-use Rattle.rules.specs.declared.RepeatAnswer.TheVariants.{Due, Quiet, Refused}
+use Rattle.rules.specs.declared.Refusal.{Refusal}
 use Rattle.rules.specs.Sheets.{sheet_bytes, element_button}
 use Rattle.rules.specs.Events.{event_bytes}
 use Rattle.rules.specs.Calls.{new_of, register_as, register_of, update_of}
@@ -39,10 +38,10 @@ unfolding told desk
 held since = told desk (record { pad = 0; time = since; event = Pressed south button })
 
 -- one more where an event is due, and what `rest` says of the hub that was told of it
-abbrev pub counted : Hub → (Hub → ℕ) → RepeatAnswer → ℕ
-counted h rest (Due e) = suc (rest (told h e))
-counted h rest Quiet = 0
-counted h rest (Refused number) = 0
+abbrev pub counted : Hub → (Hub → ℕ) → Result (Option Event) Refusal → ℕ
+counted h rest (Ok (Some e)) = suc (rest (told h e))
+counted h rest (Ok None) = 0
+counted h rest (Err e) = 0
 
 -- at most `limit` are counted
 unfoldable pub repeats : ℕ → Hub → ℕ → ℕ → ℕ → ℕ

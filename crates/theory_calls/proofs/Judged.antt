@@ -1,17 +1,18 @@
--- For each type of answer one law: what an answer says, by `answer_says` and its like of `rules/specs/Answers.antt`, is what is judged, by `judged` and for the
--- pump `pump_judged` of `specs/Judged.antt`. By cases on the refusal's number, and for the pump by induction on its steps.
-use Rattle.std.specs.Prelude.{ℕ, zero, suc, ◌-◌, ◌*◌, Bool, true, false, cond, not, ◌&&◌, List, [], ◌∷◌, ◌≡◌, refl, eqb, ltb, Float, length}
+-- What an answer says, by `answer_says` and its like of `rules/specs/Answers.antt`, is what is judged, by `judged` and for the pump `pump_judged` of
+-- `specs/Judged.antt`: one law for what is always there, and one for what may be absent. By cases on the refusal's number, and for the pump by induction on its
+-- steps.
+use Rattle.std.specs.Prelude.{ℕ, zero, suc, ◌-◌, ◌*◌, Bool, true, false, cond, not, ◌&&◌, List, [], ◌∷◌, ◌≡◌, refl, eqb, ltb, Float, length, Err, None, Ok, Option, Result, Some}
 use Rattle.std.proofs.Common.{ap}
 use Rattle.std.specs.Float.{binary32}
 use Rattle.std.specs.Float.Ieee.{to_bits}
 use Rattle.rules.specs.declared.Hub.{Hub}
 use Rattle.rules.specs.declared.Event.{Event}
-use Rattle.rules.specs.declared.EventRead.{EventRead}
-use Rattle.rules.specs.declared.EventRead.TheVariants as event_read
 use Rattle.rules.specs.declared.ButtonData.{ButtonData}
 use Rattle.rules.specs.declared.AxisData.{AxisData}
 use Rattle.rules.specs.declared.Answered.{Answered}
-use Rattle.rules.specs.declared.Answer.TheVariants as answer
+use Rattle.rules.specs.declared.EventForm.{EventForm}
+use Rattle.rules.specs.declared.PadDown.{PadDown}
+use Rattle.rules.specs.declared.Refusal.{Refusal}
 use Rattle.rules.specs.Forms.{event_size}
 use Rattle.rules.specs.Events.{event_bytes}
 use Rattle.rules.specs.Step.{next_record_of, step_refusal}
@@ -19,17 +20,33 @@ use Rattle.rules.specs.Pump.{Progress, Verdict, going, stopping, refusing, drain
 use Rattle.rules.specs.Pump.{stepped, ended_by, run_of, start_of, pump_by}
 use Rattle.rules.specs.Repeat.{repeat_by}
 use Rattle.rules.specs.Calls.{register_by, update_form_by, update_by, insert_form_by, insert_by}
-use Rattle.rules.specs.Queries.{truth_by, value_by, button_by, axis_by, number_by, down_by}
-use Rattle.rules.specs.Answers.{bit, answer_says, register_says, pump_says, repeat_says, truth_says, value_says, button_says, axis_says, number_says, down_says}
+use Rattle.rules.specs.Queries.{found_by, pad_down}
+use Rattle.rules.specs.Answers.{Said, served, refused, bit, answer_says, register_says, pump_says, repeat_says, truth_says, value_says, button_says, axis_says, number_says, down_says}
+use Rattle.rules.specs.Refusals.{numbered, answer_by}
 use Rattle.theory_calls.specs.Judged.{judged, present, button_values, axis_values, event_refusal, update_refusal, queue_refusal, ending_of, pump_ending, ending_says, pump_judged}
 
 -- ---- Done, or the refusal
 
-pub done-said : (call : ℕ → Answered) → (call zero).answer ≡ answer.Done
-    → ((number : ℕ) → (call (suc number)).answer ≡ answer.Refused (suc number))
+pub done-said : (call : ℕ → Answered) → (call zero).answer ≡ Ok tt
+    → ((number : ℕ) → (call (suc number)).answer ≡ Err (numbered (suc number)))
     → (number : ℕ) → answer_says (call number).answer ≡ judged number []
 done-said call done refuses zero = ap answer_says done
 done-said call done refuses (suc number) = ap answer_says (refuses number)
+
+-- ---- what `says` of each case it says of an answer: of what is always there, and of what may be absent
+
+module _ {A : Type 0} (values : A → List ℕ) where
+  answer-said : (says : Result A Refusal → Said) → ((x : A) → says (Ok x) ≡ served (values x)) → ((e : Refusal) → says (Err e) ≡ refused e.number [])
+      → (number : ℕ) (x : A) → says (answer_by number x) ≡ judged number (values x)
+  answer-said says serves refuses zero x = serves x
+  answer-said says serves refuses (suc number) x = refuses (numbered (suc number))
+
+  found-said : (says : Result (Option A) Refusal → Said) → ((x : A) → says (Ok (Some x)) ≡ served (values x)) → says (Ok None) ≡ served []
+      → ((e : Refusal) → says (Err e) ≡ refused e.number []) → (number : ℕ) (here : Bool) (x : A)
+      → says (found_by number here x) ≡ judged number (present here (values x))
+  found-said says finds misses refuses zero true x = finds x
+  found-said says finds misses refuses zero false x = misses
+  found-said says finds misses refuses (suc number) here x = refuses (numbered (suc number))
 
 -- ---- a pad, an event, a truth, a value, a record, a number, what is down
 
@@ -42,50 +59,41 @@ repeat-said zero true e = refl
 repeat-said zero false e = refl
 repeat-said (suc number) due e = refl
 
-pub truth-said : (number : ℕ) (b : Bool) → truth_says (truth_by number b) ≡ judged number (bit b ∷ [])
-truth-said zero b = refl
-truth-said (suc number) b = refl
+pub truth-said : (number : ℕ) (b : Bool) → truth_says (answer_by number b) ≡ judged number (bit b ∷ [])
+truth-said = answer-said (λ (b : Bool). bit b ∷ []) truth_says (λ b. refl) (λ e. refl)
 
-pub value-said : (number : ℕ) (here : Bool) (v : Float) → value_says (value_by number here v) ≡ judged number (present here (to_bits binary32 v ∷ []))
-value-said zero true v = refl
-value-said zero false v = refl
-value-said (suc number) here v = refl
+pub value-said : (number : ℕ) (here : Bool) (v : Float) → value_says (found_by number here v) ≡ judged number (present here (to_bits binary32 v ∷ []))
+value-said = found-said (λ (v : Float). to_bits binary32 v ∷ []) value_says (λ v. refl) refl (λ e. refl)
 
-pub button-said : (number : ℕ) (here : Bool) (b : ButtonData) → button_says (button_by number here b) ≡ judged number (present here (button_values b))
-button-said zero true b = refl
-button-said zero false b = refl
-button-said (suc number) here b = refl
+pub button-said : (number : ℕ) (here : Bool) (b : ButtonData) → button_says (found_by number here b) ≡ judged number (present here (button_values b))
+button-said = found-said button_values button_says (λ b. refl) refl (λ e. refl)
 
-pub axis-said : (number : ℕ) (here : Bool) (a : AxisData) → axis_says (axis_by number here a) ≡ judged number (present here (axis_values a))
-axis-said zero true a = refl
-axis-said zero false a = refl
-axis-said (suc number) here a = refl
+pub axis-said : (number : ℕ) (here : Bool) (a : AxisData) → axis_says (found_by number here a) ≡ judged number (present here (axis_values a))
+axis-said = found-said axis_values axis_says (λ a. refl) refl (λ e. refl)
 
-pub number-said : (number : ℕ) (here : Bool) (x : ℕ) → number_says (number_by number here x) ≡ judged number (present here (x ∷ []))
-number-said zero true x = refl
-number-said zero false x = refl
-number-said (suc number) here x = refl
+pub number-said : (number : ℕ) (here : Bool) (x : ℕ) → number_says (found_by number here x) ≡ judged number (present here (x ∷ []))
+number-said = found-said (λ (x : ℕ). x ∷ []) number_says (λ x. refl) refl (λ e. refl)
 
 -- a name, or none
 pub name-said : (number : ℕ) (none : Bool) (name : ℕ)
-    → number_says (number_by number (cond none false true) name) ≡ judged number (present (not none) (name ∷ []))
+    → number_says (found_by number (cond none false true) name) ≡ judged number (present (not none) (name ∷ []))
 name-said number true name = number-said number false name
 name-said number false name = number-said number true name
 
 -- a count, and whether an axis element is among them
-pub down-said : (number count : ℕ) (axis : Bool) → down_says (down_by number count axis) ≡ judged number (count ∷ bit axis ∷ [])
-down-said zero count axis = refl
-down-said (suc number) count axis = refl
+pub down-said : (number count : ℕ) (axis : Bool) → down_says (answer_by number (pad_down count axis)) ≡ judged number (count ∷ bit axis ∷ [])
+down-said number count axis =
+    answer-said (λ (d : PadDown). d.count ∷ bit d.axis ∷ []) down_says (λ d. refl) (λ e. refl) number (pad_down count axis)
 
 -- ---- update and insert_event
 
-pub update-said : (read : EventRead) (h : Hub) → answer_says (update_by read h).answer ≡ judged (event_refusal (update_refusal h) read) []
-update-said (event_read.Form f) h = done-said (λ (number : ℕ). update_form_by number h f) refl (λ (number : ℕ). refl) (update_refusal h f)
-update-said event_read.Malformed h = refl
+pub update-said : (read : Option EventForm) (h : Hub) → answer_says (update_by read h).answer ≡ judged (event_refusal (update_refusal h) read) []
+update-said (Some f) h = done-said (λ (number : ℕ). update_form_by number h f) refl (λ (number : ℕ). refl) (update_refusal h f)
+update-said None h = refl
 
-pub insert-said : (read : EventRead) (h : Hub) → answer_says (insert_by read h).answer ≡ judged (event_refusal (queue_refusal h) read) []
-insert-said (event_read.Form f) h = done-said (λ (number : ℕ). insert_form_by number h f) refl (λ (number : ℕ). refl) (queue_refusal h f)
-insert-said event_read.Malformed h = refl
+pub insert-said : (read : Option EventForm) (h : Hub) → answer_says (insert_by read h).answer ≡ judged (event_refusal (queue_refusal h) read) []
+insert-said (Some f) h = done-said (λ (number : ℕ). insert_form_by number h f) refl (λ (number : ℕ). refl) (queue_refusal h f)
+insert-said None h = refl
 
 -- ---- the pump
 

@@ -1,13 +1,11 @@
 -- "The queue holds 64. It never overflows": for every hub that the public calls lead to, whatever they are given, what waits weighs at most 64, so at
 -- most 64 events wait and each that is queued finds room. By induction on the calls.
 use Prim.Native.Nat.{ℕ, zero, suc, ◌-◌, ◌<◌, ◌≤◌}
-use Rattle.std.specs.Prelude.{Bool, true, false, cond, List, ◌++◌, ◌≡◌, refl, ltb, eqb, Float, length, get_or}
+use Rattle.std.specs.Prelude.{Bool, true, false, cond, List, ◌++◌, ◌≡◌, refl, ltb, eqb, Float, length, get_or, None, Option, Some}
 use Rattle.std.proofs.Common.{ap, ◌∙◌, arith, ltb-true, ltb-false}
 use Rattle.std.proofs.lemmas.Bool.{eqb-false}
 use Rattle.rules.specs.declared.Hub.{Hub}
 use Rattle.rules.specs.declared.EventForm.{EventForm}
-use Rattle.rules.specs.declared.EventRead.{EventRead}
-use Rattle.rules.specs.declared.EventRead.TheVariants as event_read
 use Rattle.rules.specs.declared.NextRecord.{NextRecord}
 use Rattle.rules.specs.Names.{insert_limit, queue_room}
 use Rattle.rules.specs.Forms.{read_event}
@@ -67,9 +65,9 @@ unfolding updated_of updated_at
 update-form-sound zero h f z = same_queue h _ refl refl refl z
 update-form-sound (suc number) h f z = z
 
-update-sound : (r : EventRead) (h : Hub) → Sound h → Sound (update_by r h).hub
-update-sound (event_read.Form f) h z = update-form-sound (form_refusal f h.pads (form_place h f)) h f z
-update-sound event_read.Malformed h z = z
+update-sound : (r : Option EventForm) (h : Hub) → Sound h → Sound (update_by r h).hub
+update-sound (Some f) h z = update-form-sound (form_refusal f h.pads (form_place h f)) h f z
+update-sound None h z = z
 
 -- an insert that is not refused found fewer than 16 waiting
 few-by : (none few : Bool) (number : ℕ) → eqb number 0 ≡ none → cond none (unless_fits few 13) number ≡ 0 → few ≡ true
@@ -87,9 +85,9 @@ insert-form-sound : (number : ℕ) (h : Hub) (f : EventForm) → insert_refusal 
 insert-form-sound zero h f e z = insert-sound h (form_event f) z.ring (few-waited f h.pads (form_place h f) h.waiting e)
 insert-form-sound (suc number) h f e z = z
 
-insert-call-sound : (r : EventRead) (h : Hub) → Sound h → Sound (insert_by r h).hub
-insert-call-sound (event_read.Form f) h z = insert-form-sound (insert_refusal f h.pads (form_place h f) h.waiting) h f refl z
-insert-call-sound event_read.Malformed h z = z
+insert-call-sound : (r : Option EventForm) (h : Hub) → Sound h → Sound (insert_by r h).hub
+insert-call-sound (Some f) h z = insert-form-sound (insert_refusal f h.pads (form_place h f) h.waiting) h f refl z
+insert-call-sound None h z = z
 
 -- ---- every hub that is reached
 

@@ -1,13 +1,11 @@
 -- What is said of a call that is judged by a refusal: `judged`, for the pump `pump_judged`. (For each type of answer one law, that what an answer says is what is
 -- judged: `proofs/Judged.antt`.) And no pump ends while it is to go on. By induction on its steps.
-use Rattle.std.specs.Prelude.{ℕ, zero, suc, ◌-◌, ◌*◌, Bool, true, false, cond, ◌&&◌, List, [], ◌∷◌, ◌≡◌, refl, eqb, ltb, length}
+use Rattle.std.specs.Prelude.{ℕ, zero, suc, ◌-◌, ◌*◌, Bool, true, false, cond, ◌&&◌, List, [], ◌∷◌, ◌≡◌, refl, eqb, ltb, length, None, Option, Some}
 use Rattle.std.proofs.Common.{◌∙◌, arith}
 use Rattle.std.specs.Float.{binary32}
 use Rattle.std.specs.Float.Ieee.{to_bits}
 use Rattle.rules.specs.declared.Hub.{Hub}
 use Rattle.rules.specs.declared.EventForm.{EventForm}
-use Rattle.rules.specs.declared.EventRead.{EventRead}
-use Rattle.rules.specs.declared.EventRead.TheVariants as event_read
 use Rattle.rules.specs.declared.ButtonData.{ButtonData}
 use Rattle.rules.specs.declared.AxisData.{AxisData}
 use Rattle.rules.specs.Forms.{event_size}
@@ -37,9 +35,9 @@ axis_values a = to_bits binary32 a.value ∷ a.stamp ∷ a.counter ∷ []
 
 -- ---- update and insert_event: 8 for bytes that are no event, else what the event's fields give
 
-abbrev pub event_refusal : (EventForm → ℕ) → EventRead → ℕ
-event_refusal fields (event_read.Form f) = fields f
-event_refusal fields event_read.Malformed = 8
+abbrev pub event_refusal : (EventForm → ℕ) → Option EventForm → ℕ
+event_refusal fields (Some f) = fields f
+event_refusal fields None = 8
 
 -- 6, 9, 11, 12
 abbrev pub update_refusal : Hub → EventForm → ℕ

@@ -1,15 +1,14 @@
 -- 01's five wrong machines, each shut out by the pump's promise: none of them answers what `pump_of` does. Each is any pump with the fault, and 01's padlog
 -- example, computed by the checker, is the input on which it differs.
-use Rattle.std.specs.Prelude.{ℕ, ◌<◌, ◌≡◌, refl, true, false, List, [], ◌∷◌, ◌++◌, replicate, ℤ, pos, negsuc}
+use Rattle.std.specs.Prelude.{ℕ, ◌<◌, ◌≡◌, refl, true, false, List, [], ◌∷◌, ◌++◌, replicate, ℤ, pos, negsuc, Ok, Result}
 use Rattle.std.proofs.Common.{sym, ◌∙◌, ap, arith}
 use Rattle.std.specs.Float.Ieee as Ieee
 use Rattle.std.specs.Float.{binary32}
 use Rattle.rules.specs.declared.Hub.{Hub}
 use Rattle.rules.specs.declared.Registered.{Registered}
-use Rattle.rules.specs.declared.RegisterAnswer.{RegisterAnswer}
-use Rattle.rules.specs.declared.RegisterAnswer.TheVariants as register_answer
 use Rattle.rules.specs.declared.PumpAnswer.{PumpAnswer}
 use Rattle.rules.specs.declared.PumpAnswer.TheVariants.{Drained, Full, Paused, Refused}
+use Rattle.rules.specs.declared.Refusal.{Refusal}
 use Rattle.rules.specs.Names.{dpad_x}
 use Rattle.rules.specs.Forms.{record_bytes, kind_axis}
 use Rattle.rules.specs.Sheets.{sheet_bytes, element_axis}
@@ -45,7 +44,7 @@ room = replicate 132 0
 abbrev pub allowed : ℕ
 allowed = 100
 
-pub first-pad : (register_of bare sheet).answer ≡ register_answer.Pad 0
+pub first-pad : (register_of bare sheet).answer ≡ Ok 0
 unfolding bare sheet register_as new_of Ieee.of_bits Ieee.lt Ieee.le Ieee.of_int Ieee.sub Ieee.mul Ieee.div
 first-pad = refl
 
@@ -139,7 +138,7 @@ module _ (m : Machine) (meets : Meets m) where
 
 -- ---- "a hub refusing everything": its registration
 
-abbrev pub register_refused : RegisterAnswer → ℕ
+abbrev pub register_refused : Result ℕ Refusal → ℕ
 register_refused a = (register_says a).refusal
 
 pub refuses-every-sheet : (register : Hub → List ℕ → Registered) → ((h : Hub) (s : List ℕ) → register h s ≡ register_of h s)

@@ -1,20 +1,18 @@
 -- "that two answers meeting a promise are equal is proved": the contract of each public call is an equation with a definition, so two results that meet
 -- it are equal: the answer, the hub after it and, for the pump, every lent byte. One lemma, then a line for each call by name, in the order of 01's table.
 -- The functions behind the calls whose contract is a record or a pair around an equation stand in the crate `theory_unique`.
-use Rattle.std.specs.Prelude.{ℕ, Bool, List, ◌≡◌, Float}
+use Rattle.std.specs.Prelude.{ℕ, Bool, List, ◌≡◌, Float, Option, Result}
 use Rattle.std.proofs.Common.{sym, ◌∙◌, ap}
 use Rattle.rules.specs.declared.Hub.{Hub}
 use Rattle.rules.specs.declared.Answered.{Answered}
 use Rattle.rules.specs.declared.Registered.{Registered}
 use Rattle.rules.specs.declared.Pumped.{Pumped}
+use Rattle.rules.specs.declared.AxisData.{AxisData}
+use Rattle.rules.specs.declared.ButtonData.{ButtonData}
+use Rattle.rules.specs.declared.PadDown.{PadDown}
+use Rattle.rules.specs.declared.Event.{Event}
+use Rattle.rules.specs.declared.Refusal.{Refusal}
 use Rattle.numbers.specs.declared.Tilt.{Tilt}
-use Rattle.rules.specs.declared.RepeatAnswer.{RepeatAnswer}
-use Rattle.rules.specs.declared.TruthAnswer.{TruthAnswer}
-use Rattle.rules.specs.declared.ValueAnswer.{ValueAnswer}
-use Rattle.rules.specs.declared.ButtonAnswer.{ButtonAnswer}
-use Rattle.rules.specs.declared.AxisAnswer.{AxisAnswer}
-use Rattle.rules.specs.declared.NumberAnswer.{NumberAnswer}
-use Rattle.rules.specs.declared.DownAnswer.{DownAnswer}
 use Rattle.rules.specs.Pump.{Run, pump_of}
 use Rattle.rules.specs.Tilt.{pump_tilt}
 use Rattle.rules.specs.Repeat.{repeat_of}
@@ -89,54 +87,54 @@ module _ (h : Hub) where
   pub unique-reset-counter : One (λ (r : Hub). r ≡ reset_of h)
   unique-reset-counter = one-equation _
 
-  pub unique-repeat : (after every clock : ℕ) → One (λ (r : RepeatAnswer). r ≡ repeat_of h after every clock)
+  pub unique-repeat : (after every clock : ℕ) → One (λ (r : Result (Option Event) Refusal). r ≡ repeat_of h after every clock)
   unique-repeat after every clock = one-equation _
 
   -- ---- the queries
 
-  pub unique-is-pressed-by-code : (p code : ℕ) → One (λ (r : TruthAnswer). r ≡ pressed_by_code h p code)
+  pub unique-is-pressed-by-code : (p code : ℕ) → One (λ (r : Result Bool Refusal). r ≡ pressed_by_code h p code)
   unique-is-pressed-by-code p code = one-equation _
 
-  pub unique-is-pressed : (p name : ℕ) → One (λ (r : TruthAnswer). r ≡ pressed_by_name h p name)
+  pub unique-is-pressed : (p name : ℕ) → One (λ (r : Result Bool Refusal). r ≡ pressed_by_name h p name)
   unique-is-pressed p name = one-equation _
 
-  pub unique-value-by-code : (p code : ℕ) → One (λ (r : ValueAnswer). r ≡ value_by_code h p code)
+  pub unique-value-by-code : (p code : ℕ) → One (λ (r : Result (Option Float) Refusal). r ≡ value_by_code h p code)
   unique-value-by-code p code = one-equation _
 
-  pub unique-value : (p name : ℕ) → One (λ (r : ValueAnswer). r ≡ value_by_name h p name)
+  pub unique-value : (p name : ℕ) → One (λ (r : Result (Option Float) Refusal). r ≡ value_by_name h p name)
   unique-value p name = one-equation _
 
-  pub unique-button-data-by-code : (p code : ℕ) → One (λ (r : ButtonAnswer). r ≡ button_by_code h p code)
+  pub unique-button-data-by-code : (p code : ℕ) → One (λ (r : Result (Option ButtonData) Refusal). r ≡ button_by_code h p code)
   unique-button-data-by-code p code = one-equation _
 
-  pub unique-button-data : (p name : ℕ) → One (λ (r : ButtonAnswer). r ≡ button_by_name h p name)
+  pub unique-button-data : (p name : ℕ) → One (λ (r : Result (Option ButtonData) Refusal). r ≡ button_by_name h p name)
   unique-button-data p name = one-equation _
 
-  pub unique-axis-data-by-code : (p code : ℕ) → One (λ (r : AxisAnswer). r ≡ axis_by_code h p code)
+  pub unique-axis-data-by-code : (p code : ℕ) → One (λ (r : Result (Option AxisData) Refusal). r ≡ axis_by_code h p code)
   unique-axis-data-by-code p code = one-equation _
 
-  pub unique-axis-data : (p name : ℕ) → One (λ (r : AxisAnswer). r ≡ axis_by_name h p name)
+  pub unique-axis-data : (p name : ℕ) → One (λ (r : Result (Option AxisData) Refusal). r ≡ axis_by_name h p name)
   unique-axis-data p name = one-equation _
 
-  pub unique-deadzone-threshold : (p code : ℕ) → One (λ (r : ValueAnswer). r ≡ threshold_by_code h p code)
+  pub unique-deadzone-threshold : (p code : ℕ) → One (λ (r : Result (Option Float) Refusal). r ≡ threshold_by_code h p code)
   unique-deadzone-threshold p code = one-equation _
 
-  pub unique-axis-or-btn-name : (p code : ℕ) → One (λ (r : NumberAnswer). r ≡ name_by_code h p code)
+  pub unique-axis-or-btn-name : (p code : ℕ) → One (λ (r : Result (Option ℕ) Refusal). r ≡ name_by_code h p code)
   unique-axis-or-btn-name p code = one-equation _
 
-  pub unique-code-of-name : (p name : ℕ) → One (λ (r : NumberAnswer). r ≡ code_by_name h p name)
+  pub unique-code-of-name : (p name : ℕ) → One (λ (r : Result (Option ℕ) Refusal). r ≡ code_by_name h p name)
   unique-code-of-name p name = one-equation _
 
-  pub unique-is-connected : (p : ℕ) → One (λ (r : TruthAnswer). r ≡ connected_of h p)
+  pub unique-is-connected : (p : ℕ) → One (λ (r : Result Bool Refusal). r ≡ connected_of h p)
   unique-is-connected p = one-equation _
 
-  pub unique-down : (p : ℕ) → One (λ (r : DownAnswer). r ≡ down_of h p)
+  pub unique-down : (p : ℕ) → One (λ (r : Result PadDown Refusal). r ≡ down_of h p)
   unique-down p = one-equation _
 
-  pub unique-lowest-pressed : (p : ℕ) → One (λ (r : NumberAnswer). r ≡ lowest_pressed h p)
+  pub unique-lowest-pressed : (p : ℕ) → One (λ (r : Result (Option ℕ) Refusal). r ≡ lowest_pressed h p)
   unique-lowest-pressed p = one-equation _
 
-  pub unique-is-old : (p : ℕ) → One (λ (r : TruthAnswer). r ≡ old_of h p)
+  pub unique-is-old : (p : ℕ) → One (λ (r : Result Bool Refusal). r ≡ old_of h p)
   unique-is-old p = one-equation _
 
   pub unique-waiting : One (λ (r : ℕ). r ≡ h.waiting)

@@ -1,11 +1,11 @@
 -- "each record hands out at most four events before the next is taken": `four` and `before` of the page. What was written since and what can still be
 -- handed out is at most what could be, and four for each record taken: a pump by history's counting law, and no other call changes any of it.
-use Rattle.std.specs.Prelude.{ℕ, zero, suc, ◌+◌, ◌-◌, ◌*◌, ◌/◌, ◌≤◌, true, false, List, [], ◌∷◌, ◌≡◌, length}
+use Rattle.std.specs.Prelude.{ℕ, zero, suc, ◌+◌, ◌-◌, ◌*◌, ◌/◌, ◌≤◌, true, false, List, [], ◌∷◌, ◌≡◌, length, Err, None, Ok, Option, Result, Some}
 use Rattle.std.proofs.Common.{◌∙◌, arith}
 use Rattle.rules.specs.declared.Hub.{Hub}
 use Rattle.rules.specs.declared.RawRecord.{RawRecord}
-use Rattle.rules.specs.declared.RepeatAnswer.{RepeatAnswer}
-use Rattle.rules.specs.declared.RepeatAnswer.TheVariants as repeat_answer
+use Rattle.rules.specs.declared.Event.{Event}
+use Rattle.rules.specs.declared.Refusal.{Refusal}
 use Rattle.rules.specs.Forms.{record_size, record_fields}
 use Rattle.rules.specs.Events.{event_bytes}
 use Rattle.rules.specs.Repeat.{repeat_of}
@@ -25,10 +25,10 @@ unfolding records_from
 records-length zero s at rs = omega arith
 records-length (suc n) s at rs = records-length n s (at + record_size) (record_fields s at ∷ rs) ∙ omega arith
 
-fed-still : (a : RepeatAnswer) (h : Hub) (b : ℕ) → Still h b → Still (fed_back a h) b
-fed-still (repeat_answer.Due e) h b t = update-still h (event_bytes e) b t
-fed-still repeat_answer.Quiet h b t = t
-fed-still (repeat_answer.Refused number) h b t = t
+fed-still : (a : Result (Option Event) Refusal) (h : Hub) (b : ℕ) → Still h b → Still (fed_back a h) b
+fed-still (Ok (Some e)) h b t = update-still h (event_bytes e) b t
+fed-still (Ok None) h b t = t
+fed-still (Err e) h b t = t
 
 -- scripts without their last calls
 pub allowed-before : (s : Script) (cs : List Call) → Allowed (goes_on s cs) → Allowed s

@@ -1,6 +1,6 @@
 -- What a code reads is what the rule says of it, told from the sheet's bytes: by the sort of the code, each sort's theorem of history, with what the hub keeps of
 -- the code in place of what the sheet says.
-use Rattle.std.specs.Prelude.{ℕ, zero, suc, ◌+◌, ◌<◌, Bool, true, cond, ◌&&◌, List, ◌≡◌, eqb, Float, get_or}
+use Rattle.std.specs.Prelude.{ℕ, zero, suc, ◌+◌, ◌<◌, Bool, true, cond, ◌&&◌, List, ◌≡◌, eqb, Float, get_or, Ok, Some}
 use Rattle.std.proofs.Math.Bool.{false, not}
 use Rattle.std.proofs.Math.Path.{refl, ap}
 use Rattle.std.proofs.Common.{sym, ◌∙◌, subst, arith, eqb-true}
@@ -11,8 +11,6 @@ use Rattle.rules.specs.declared.Hub.{Hub}
 use Rattle.rules.specs.declared.Element.{Element}
 use Rattle.rules.specs.declared.RawRecord.{RawRecord}
 use Rattle.rules.specs.declared.SheetElement.{SheetElement}
-use Rattle.rules.specs.declared.TruthAnswer.TheVariants as truth_answer
-use Rattle.rules.specs.declared.ValueAnswer.TheVariants as value_answer
 use Rattle.rules.specs.Names.{pad_limit, nowhere, is_axis, is_button, is_hat, dpad_x, dpad_y, code_up, code_down, code_left, code_right, positive_code, negative_code}
 use Rattle.rules.specs.Sheets.{element_button, element_axis, count_of}
 use Rattle.rules.specs.Places.{directions, listed_row}
@@ -26,7 +24,7 @@ use Rattle.theory_registered.proofs.Pads.{reached-desk}
 use Rattle.theory_history.specs.Rule.{Reading, Reads, nothing, held, is_direction, button_reads, trigger_reads, hat_value}
 use Rattle.theory_history.specs.Played.{Played, reached, ready}
 use Rattle.theory_history.proofs.Demand as demand
-use Rattle.theory_history.proofs.Demand.{asked-pressed, asked-value, standing-truth, standing-value}
+use Rattle.theory_history.proofs.Demand.{asked-pressed, asked-value, standing}
 use Rattle.theory_history.proofs.Directions.{positive, negative, opposites-read}
 use Rattle.theory_history.specs.Lemmas.Truth.{false-true, true-false}
 use Rattle.theory_demand3.specs.Demand3.{Settings, Sheet, sheet_read, Lookup, listed, unlisted, lookup, lookup_name, lookup_element, converts, says, silent, last_hat, direction_reads, element_reads, reads_by, rule_reads, Opposite, right-left, up-down}
@@ -88,7 +86,7 @@ module _ {h : Hub} {rs : List RawRecord} (w : Played h rs) (p : ℕ) (old : p < 
   -- ---- "opposite directions never read pressed together", whatever waits
 
   pub opposite-reads : converts sheet ≡ true → (c d : ℕ) → Opposite c d → lookup c sheet.elements ≡ unlisted → lookup d sheet.elements ≡ unlisted
-      → pressed_by_code h p c ≡ truth_answer.Is true → pressed_by_code h p d ≡ truth_answer.Is false
+      → pressed_by_code h p c ≡ Ok true → pressed_by_code h p d ≡ Ok false
   unfolding positive_code negative_code is_hat is_direction
   opposite-reads hats c d right-left no_plus no_minus =
       opposites-read w p dpad_x old (converting hats) refl (bare-kind code_right no_plus refl) (bare-kind code_left no_minus refl)
@@ -201,8 +199,8 @@ module _ {h : Hub} {rs : List RawRecord} (w : Played h rs) (p : ℕ) (old : p < 
             let hasbutton : has_button_at h at ≡ false = get_or-eq_default h.hasbutton false {n = at} (omega arith) in
             let hasaxis : has_axis_at h at ≡ false = get_or-eq_default h.hasaxis false {n = at} (omega arith) in
             record {
-              pressed = asked-pressed h p c ∙ (standing-truth h.pads p _ old stands ∙ ap truth_answer.Is (rw hasbutton));
-              value = asked-value h p c ∙ (standing-value h.pads p _ old stands ∙ ap value_answer.Value (rw (hasaxis, hasbutton)));
+              pressed = asked-pressed h p c ∙ (standing h.pads p _ old stands ∙ ap Ok (rw hasbutton));
+              value = asked-value h p c ∙ (standing h.pads p _ old stands ∙ ap (λ (v : Float). Ok (Some v)) (rw (hasaxis, hasbutton)));
             }
 
         nothing-reads : (direction : Bool) → is_direction c ≡ direction → (converts sheet && is_direction c) ≡ false → Reads h p c nothing

@@ -1,15 +1,14 @@
 -- The hub after a script: it is played by the records that the script took, it has the script's settings, and it keeps the sheets that were accepted. By
 -- induction on the calls; only registration touches the sheets, and only a pump takes records.
-use Rattle.std.specs.Prelude.{ℕ, zero, suc, ◌+◌, ◌-◌, ◌*◌, ◌/◌, ◌<◌, Bool, true, false, List, [], ◌∷◌, ◌++◌, ◌≡◌, refl, ltb, length, get_or}
+use Rattle.std.specs.Prelude.{ℕ, zero, suc, ◌+◌, ◌-◌, ◌*◌, ◌/◌, ◌<◌, Bool, true, false, List, [], ◌∷◌, ◌++◌, ◌≡◌, refl, ltb, length, get_or, Err, None, Ok, Option, Result, Some}
 use Rattle.std.proofs.Common.{sym, ◌∙◌, ap, subst, length-append, arith, ltb-true, ltb-false}
 use Rattle.std.proofs.Math.ListN.{get_or-append}
 use Rattle.std.proofs.Math.Seq.{get_or-append_seam}
 use Rattle.rules.specs.declared.Hub.{Hub}
 use Rattle.rules.specs.declared.RawRecord.{RawRecord}
-use Rattle.rules.specs.declared.EventRead.{EventRead}
-use Rattle.rules.specs.declared.EventRead.TheVariants as event_read
-use Rattle.rules.specs.declared.RepeatAnswer.{RepeatAnswer}
-use Rattle.rules.specs.declared.RepeatAnswer.TheVariants as repeat_answer
+use Rattle.rules.specs.declared.Event.{Event}
+use Rattle.rules.specs.declared.EventForm.{EventForm}
+use Rattle.rules.specs.declared.Refusal.{Refusal}
 use Rattle.rules.specs.Forms.{read_event, record_size}
 use Rattle.rules.specs.Events.{event_bytes}
 use Rattle.rules.specs.Repeat.{repeat_of}
@@ -45,10 +44,10 @@ pump-played h rs batch place out allowance w =
 
 -- ---- codes of four bytes, so that a repeat's event reads back
 
-fed-small : (a : RepeatAnswer) (h : Hub) → Small h → Small (fed_back a h)
-fed-small (repeat_answer.Due e) h w = update-small h (event_bytes e) w
-fed-small repeat_answer.Quiet h w = w
-fed-small (repeat_answer.Refused number) h w = w
+fed-small : (a : Result (Option Event) Refusal) (h : Hub) → Small h → Small (fed_back a h)
+fed-small (Ok (Some e)) h w = update-small h (event_bytes e) w
+fed-small (Ok None) h w = w
+fed-small (Err e) h w = w
 
 script-small : (s : Script) → Allowed s → Small (play pump_of s)
 unfolding play inc_of reset_of
@@ -62,11 +61,11 @@ script-small (s then repeat after every clock false) ok = script-small s ok.0
 
 -- ---- played
 
-fed-played : (h : Hub) (rs : List RawRecord) (after every clock : ℕ) (a : RepeatAnswer) → repeat_of h after every clock ≡ a → Small h → Played h rs
+fed-played : (h : Hub) (rs : List RawRecord) (after every clock : ℕ) (a : Result (Option Event) Refusal) → repeat_of h after every clock ≡ a → Small h → Played h rs
     → Played (fed_back a h) rs
-fed-played h rs after every clock (repeat_answer.Due e) is small w = played.repeat (event_bytes e) (repeats w small after every clock e is) w
-fed-played h rs after every clock repeat_answer.Quiet is small w = w
-fed-played h rs after every clock (repeat_answer.Refused number) is small w = w
+fed-played h rs after every clock (Ok (Some e)) is small w = played.repeat (event_bytes e) (repeats w small after every clock e is) w
+fed-played h rs after every clock (Ok None) is small w = w
+fed-played h rs after every clock (Err e) is small w = w
 
 pub script-played : (s : Script) → Allowed s → Played (play pump_of s) (records_of pump_of s)
 unfolding play records_of
@@ -146,11 +145,11 @@ register-sheets zero h archived sheet sheets d taken w =
     }
 register-sheets (suc number) h archived sheet sheets d taken w = w
 
-fed-sheets : (a : RepeatAnswer) (h : Hub) (sheets : List Sheet) → Sheets h sheets → Sheets (fed_back a h) sheets
+fed-sheets : (a : Result (Option Event) Refusal) (h : Hub) (sheets : List Sheet) → Sheets h sheets → Sheets (fed_back a h) sheets
 unfolding update_of
-fed-sheets (repeat_answer.Due e) h sheets w = alike-sheets h _ sheets (update_alike (read_event (event_bytes e)) h) w
-fed-sheets repeat_answer.Quiet h sheets w = w
-fed-sheets (repeat_answer.Refused number) h sheets w = w
+fed-sheets (Ok (Some e)) h sheets w = alike-sheets h _ sheets (update_alike (read_event (event_bytes e)) h) w
+fed-sheets (Ok None) h sheets w = w
+fed-sheets (Err e) h sheets w = w
 
 pub script-sheets : (s : Script) → Allowed s → Sheets (play pump_of s) (sheets_of pump_of s)
 unfolding play pump_of sheets_of new_of register_as inc_of reset_of
@@ -185,15 +184,15 @@ unfolding registered_at
 register-set zero t h sheet w = record { pressed = w.pressed; released = w.released; reversed = w.reversed }
 register-set (suc number) t h sheet w = w
 
-read_set : (r : EventRead) (t : Settings) (h : Hub) → Set t h → Set t (update_by r h).hub
-read_set (event_read.Form f) t h w = same_set t h _ (form-same (form_refusal f h.pads (form_place h f)) h f) w
-read_set event_read.Malformed t h w = w
+read_set : (r : Option EventForm) (t : Settings) (h : Hub) → Set t h → Set t (update_by r h).hub
+read_set (Some f) t h w = same_set t h _ (form-same (form_refusal f h.pads (form_place h f)) h f) w
+read_set None t h w = w
 
-fed-set : (a : RepeatAnswer) (t : Settings) (h : Hub) → Set t h → Set t (fed_back a h)
+fed-set : (a : Result (Option Event) Refusal) (t : Settings) (h : Hub) → Set t h → Set t (fed_back a h)
 unfolding update_of
-fed-set (repeat_answer.Due e) t h w = read_set (read_event (event_bytes e)) t h w
-fed-set repeat_answer.Quiet t h w = w
-fed-set (repeat_answer.Refused number) t h w = w
+fed-set (Ok (Some e)) t h w = read_set (read_event (event_bytes e)) t h w
+fed-set (Ok None) t h w = w
+fed-set (Err e) t h w = w
 
 pub script-set : (s : Script) → Allowed s → Set (settings_of s) (play pump_of s)
 unfolding play pump_of settings_of new_of register_as inc_of reset_of

@@ -1,7 +1,6 @@
 -- Demand 3 holds of the pump. The hub after a script is played by the records that the script took (Scripts), so history's theorems say what its codes read;
 -- what they ask of the hub's columns is read off the sheet's bytes (Listed, Converting, Reading).
-use Rattle.std.specs.Prelude.{ℕ, ◌<◌, true, false, ◌≡◌, length, get_or}
-use Rattle.rules.specs.declared.TruthAnswer.TheVariants as truth_answer
+use Rattle.std.specs.Prelude.{ℕ, ◌<◌, true, false, ◌≡◌, length, get_or, Ok}
 use Rattle.rules.specs.Pump.{pump_of}
 use Rattle.rules.specs.Queries.{pressed_by_code}
 use Rattle.theory_history.specs.Rule.{Reading, Reads}
@@ -25,7 +24,7 @@ module _ (s : Script) (ok : Allowed s) (p : ℕ) (short : p < length (sheets_of 
       code_reads (script-played s ok) p old registered.bytes registered.kept none (settings_of s) (script-set s ok) c x (rw registered.reads at rule)
 
   opposites : (c d : ℕ) → converts sheet ≡ true → Opposite c d → lookup c sheet.elements ≡ unlisted → lookup d sheet.elements ≡ unlisted
-      → pressed_by_code (play pump_of s) p c ≡ truth_answer.Is true → pressed_by_code (play pump_of s) p d ≡ truth_answer.Is false
+      → pressed_by_code (play pump_of s) p c ≡ Ok true → pressed_by_code (play pump_of s) p d ≡ Ok false
   opposites c d hats facing no_plus no_minus =
       opposite-reads (script-played s ok) p old registered.bytes registered.kept (rw registered.reads at hats) c d facing
       (rw registered.reads at no_plus) (rw registered.reads at no_minus)

@@ -1,9 +1,8 @@
 -- 01's wrong machines (`specs/Wrong`) do not meet demand 3: 01's padlog example is the script on which each fails. By what the checker computed of it: the rule
 -- says that a direction is pressed, and it does not read so.
-use Rattle.std.specs.Prelude.{ℕ, ◌<◌, true, false, List, [], ◌∷◌, ◌≡◌, refl, length, get_or}
+use Rattle.std.specs.Prelude.{ℕ, ◌<◌, true, false, List, [], ◌∷◌, ◌≡◌, refl, length, get_or, Ok}
 use Rattle.std.proofs.Common.{arith}
 use Rattle.rules.specs.declared.RawRecord.{RawRecord}
-use Rattle.rules.specs.declared.TruthAnswer.TheVariants as truth_answer
 use Rattle.rules.specs.Names.{code_left, code_right}
 use Rattle.rules.specs.Queries.{pressed_by_code}
 use Rattle.theory_calls.specs.Machines.{Machine, sheet}
@@ -24,7 +23,7 @@ module _ (m : Machine) (s : Script) (rs : List RawRecord) (sheets : sheets_of m 
   registered = rw sheets (omega arith)
 
   refuted : Allowed s → (play m s).waiting ≡ 0 → (c : ℕ) → rule_reads padlog (sheet_read sheet) 0 c rs ≡ says (held true)
-      → pressed_by_code (play m s) 0 c ≡ truth_answer.Is false → Demand3 m → ⊥
+      → pressed_by_code (play m s) 0 c ≡ Ok false → Demand3 m → ⊥
   refuted ok none c is other d = clash (pressed_by_code (play m s) 0 c) (d.reads s ok none 0 c (held true) registered (told c (held true) is)).pressed other
 
 -- ---- the hub stays as it is: the rule says that Left is pressed, and it does not read so

@@ -2,19 +2,16 @@
 -- that were accepted, the records that were taken and the events that were written; `rule_reads` is 01's history rule over these, which knows no queue; and
 -- `Demand3` says of a pump what every script shows. Theorem.antt proves it of the pump. Definitions only: beside `rules` and `numbers` a referee reads this page,
 -- `Rule` of history, and of `Machines` of promises what a pump's answer says.
-use Rattle.std.specs.Prelude.{ℕ, zero, suc, ◌+◌, ◌-◌, ◌*◌, ◌/◌, ◌<◌, ◌≤◌, Bool, true, false, cond, not, ◌&&◌, ◌||◌, List, [], ◌∷◌, ◌++◌, ◌≡◌, eqb, Float, length, get_or}
+use Rattle.std.specs.Prelude.{ℕ, zero, suc, ◌+◌, ◌-◌, ◌*◌, ◌/◌, ◌<◌, ◌≤◌, Bool, true, false, cond, not, ◌&&◌, ◌||◌, List, [], ◌∷◌, ◌++◌, ◌≡◌, eqb, Float, length, get_or, Err, None, Ok, Option, Result, Some}
 use Rattle.std.specs.Float.Ieee.{eq}
 use Rattle.numbers.specs.Constants.{one32, minus_one32}
 use Rattle.rules.specs.declared.Hub.{Hub}
 use Rattle.rules.specs.declared.RawRecord.{RawRecord}
 use Rattle.rules.specs.declared.Element.{Element}
 use Rattle.rules.specs.declared.SheetElement.{SheetElement}
-use Rattle.rules.specs.declared.RegisterAnswer.{RegisterAnswer}
-use Rattle.rules.specs.declared.RegisterAnswer.TheVariants as register_answer
 use Rattle.rules.specs.declared.PumpAnswer.{PumpAnswer}
-use Rattle.rules.specs.declared.RepeatAnswer.{RepeatAnswer}
-use Rattle.rules.specs.declared.RepeatAnswer.TheVariants as repeat_answer
-use Rattle.rules.specs.declared.TruthAnswer.TheVariants as truth_answer
+use Rattle.rules.specs.declared.Event.{Event}
+use Rattle.rules.specs.declared.Refusal.{Refusal}
 use Rattle.rules.specs.Names.{no_name, dpad_x, dpad_y, dpad_right, code_up, code_down, code_left, code_right, is_button, is_axis}
 use Rattle.rules.specs.Forms.{record_size}
 use Rattle.rules.specs.Sheets.{hats_of, count_of, element_of, element_button, element_axis, last_hats}
@@ -68,10 +65,10 @@ Allowed (s then c) = Allowed s × Lends c
 
 -- ---- the hub after a script, with any function for the pump, so that wrong ones can be tried
 
-abbrev pub fed_back : RepeatAnswer → Hub → Hub
-fed_back (repeat_answer.Due e) h = (update_of h (event_bytes e)).hub
-fed_back repeat_answer.Quiet h = h
-fed_back (repeat_answer.Refused number) h = h
+abbrev pub fed_back : Result (Option Event) Refusal → Hub → Hub
+fed_back (Ok (Some e)) h = (update_of h (event_bytes e)).hub
+fed_back (Ok None) h = h
+fed_back (Err e) h = h
 
 abbrev pub called : Machine → Call → Hub → Hub
 called m (register archived sheet) h = (register_as archived h sheet).hub
@@ -129,9 +126,9 @@ unfoldable pub sheet_read : List ℕ → Sheet
 unfolding elements_from
 sheet_read s = record { hats = hats_of s; elements = elements_from (count_of s) s 0 }
 
-abbrev pub accepted_by : RegisterAnswer → List ℕ → List Sheet → List Sheet
-accepted_by (register_answer.Pad p) s sheets = sheets ++ (sheet_read s ∷ [])
-accepted_by (register_answer.Refused number) s sheets = sheets
+abbrev pub accepted_by : Result ℕ Refusal → List ℕ → List Sheet → List Sheet
+accepted_by (Ok p) s sheets = sheets ++ (sheet_read s ∷ [])
+accepted_by (Err e) s sheets = sheets
 
 unfoldable pub sheets_of : Machine → Script → List Sheet
 unfolding play
@@ -226,7 +223,7 @@ pub record Demand3 (m : Machine) : Type 0 where
   -- "on a converting pad opposite directions never read pressed together", whatever waits
   pub opposites : (s : Script) → Allowed s → (p c d : ℕ) → p < length (sheets_of m s) → converts (get_or (sheets_of m s) p no_sheet) ≡ true → Opposite c d
       → lookup c (get_or (sheets_of m s) p no_sheet).elements ≡ unlisted → lookup d (get_or (sheets_of m s) p no_sheet).elements ≡ unlisted
-      → pressed_by_code (play m s) p c ≡ truth_answer.Is true → pressed_by_code (play m s) p d ≡ truth_answer.Is false
+      → pressed_by_code (play m s) p c ≡ Ok true → pressed_by_code (play m s) p d ≡ Ok false
   -- "each record hands out at most four events": from any moment at which nothing waits to any later one, whatever stops lie between
   pub four : (s : Script) (cs : List Call) → Allowed (goes_on s cs) → (play m s).waiting ≡ 0
       → events_of m (goes_on s cs) ≤ events_of m s + 4 * (length (records_of m (goes_on s cs)) - length (records_of m s))

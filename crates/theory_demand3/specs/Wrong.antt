@@ -1,11 +1,10 @@
 -- 01's wrong machines against demand 3: "one that converts the first hat move and then only advances its place (demands 2 and 3)", and one that leaves the hub as
 -- it is and answers that the batch is used up. What each does with 01's padlog example, computed by the checker; `proofs/Wrong` refutes demand 3 of both by it.
-use Rattle.std.specs.Prelude.{ℕ, zero, suc, ◌+◌, Bool, true, false, ◌&&◌, List, [], ◌∷◌, ◌≡◌, refl, ltb, pos, negsuc, length, take}
+use Rattle.std.specs.Prelude.{ℕ, zero, suc, ◌+◌, Bool, true, false, ◌&&◌, List, [], ◌∷◌, ◌≡◌, refl, ltb, pos, negsuc, length, take, Ok, Result}
 use Rattle.std.proofs.Common.{sym, arith, ltb-true}
 use Rattle.std.specs.Float.Ieee as Ieee
 use Rattle.rules.specs.declared.PumpAnswer.TheVariants.{Drained}
-use Rattle.rules.specs.declared.TruthAnswer.{TruthAnswer}
-use Rattle.rules.specs.declared.TruthAnswer.TheVariants as truth_answer
+use Rattle.rules.specs.declared.Refusal.{Refusal}
 use Rattle.rules.specs.Names.{code_left, code_right}
 use Rattle.rules.specs.Forms.{record_size, record_fields}
 use Rattle.rules.specs.Refusals.{thresholds_refusal}
@@ -66,7 +65,7 @@ example-allowed = ((refl, bytes sheet sheet-bytes), tt)
 
 -- ---- what a query answers
 
-pub clash : (a : TruthAnswer) → a ≡ truth_answer.Is true → a ≡ truth_answer.Is false → ⊥
+pub clash : (a : Result Bool Refusal) → a ≡ Ok true → a ≡ Ok false → ⊥
 clash a e f = let z : ◌≡◌ {A = ℕ} 0 1 = cc in omega arith
 
 -- the one sheet that is registered, whatever the pump
@@ -88,7 +87,7 @@ pub leaves-records : records_of leaves pushed ≡ hasaxis (negsuc 0) 100 ∷ []
 unfolding leaves pushed padlog sheet move records_of records_from record_fields new_of register_as Ieee.of_bits Ieee.lt Ieee.le Ieee.eq Ieee.ne Ieee.of_int Ieee.sub Ieee.mul Ieee.div Ieee.neg Ieee.add
 leaves-records = refl
 
-pub leaves-left : pressed_by_code (play leaves pushed) 0 code_left ≡ truth_answer.Is false
+pub leaves-left : pressed_by_code (play leaves pushed) 0 code_left ≡ Ok false
 unfolding leaves pushed padlog sheet play new_of register_as pressed_by_code Ieee.of_bits Ieee.lt Ieee.le Ieee.eq Ieee.ne Ieee.of_int Ieee.sub Ieee.mul Ieee.div Ieee.neg Ieee.add
 leaves-left = refl
 
@@ -102,6 +101,6 @@ pub advances-records : records_of only_advances example ≡ hasaxis (pos 1) 200 
 unfolding only_advances example padlog sheet move records_of records_from new_of register_as pump_of Ieee.of_bits Ieee.lt Ieee.le Ieee.eq Ieee.ne Ieee.of_int Ieee.sub Ieee.mul Ieee.div Ieee.neg Ieee.add
 advances-records = refl
 
-pub advances-right : pressed_by_code (play only_advances example) 0 code_right ≡ truth_answer.Is false
+pub advances-right : pressed_by_code (play only_advances example) 0 code_right ≡ Ok false
 unfolding only_advances example padlog sheet move play new_of register_as pump_of pressed_by_code Ieee.of_bits Ieee.lt Ieee.le Ieee.eq Ieee.ne Ieee.of_int Ieee.sub Ieee.mul Ieee.div Ieee.neg Ieee.add
 advances-right = refl

@@ -1,16 +1,13 @@
 -- W-213's two queries on every hub that the public calls reach, of a registered pad: `down` answers the fresh counts, and `lowest_pressed` the least code that reads
--- pressed, or Absent exactly where none does (`Lowest` of `specs/Asked`). From the summary (Kept); a pad's places are in code order, and what reads pressed is its
+-- pressed, or None exactly where none does (`Lowest` of `specs/Asked`). From the summary (Kept); a pad's places are in code order, and what reads pressed is its
 -- code's place.
-use Rattle.std.specs.Prelude.{ℕ, ◌+◌, ◌*◌, ◌/◌, ◌%◌, ◌<◌, ◌≤◌, Bool, true, ◌&&◌, ◌≡◌, refl, ltb, get_or}
+use Rattle.std.specs.Prelude.{ℕ, ◌+◌, ◌*◌, ◌/◌, ◌%◌, ◌<◌, ◌≤◌, Bool, true, ◌&&◌, ◌≡◌, refl, ltb, get_or, None, Ok, Option, Result}
 use Rattle.std.proofs.Math.Bool.{false}
 use Rattle.std.proofs.Common.{sym, ap, ap₂, ◌∙◌, subst, arith}
 use Rattle.std.proofs.Math.ListN.{get_or-eq_default}
 use borrow.Author.Tests.{eqb-true, eq-eqb, ltb-true, ltb-false, lt-ltb}
 use Rattle.rules.specs.declared.Hub.{Hub}
-use Rattle.rules.specs.declared.NumberAnswer.{NumberAnswer}
-use Rattle.rules.specs.declared.NumberAnswer.TheVariants as number_answer
-use Rattle.rules.specs.declared.TruthAnswer.TheVariants.{Is}
-use Rattle.rules.specs.declared.DownAnswer.TheVariants.{Down}
+use Rattle.rules.specs.declared.Refusal.{Refusal}
 use Rattle.rules.specs.Names.{pad_limit, places_per_pad, nowhere}
 use Rattle.rules.specs.Sheets.{element_axis}
 use Rattle.rules.specs.Places.{place_of}
@@ -18,7 +15,7 @@ use Rattle.rules.specs.Refusals.{is_registered}
 use Rattle.rules.specs.State.{read_pressed}
 use Rattle.rules.specs.Hub.{place_in, kind_at, pressed_at}
 use Rattle.rules.specs.Down.{lowest_of}
-use Rattle.rules.specs.Queries.{pad_refusal, pressed_by_code, number_by, down_of, lowest_pressed}
+use Rattle.rules.specs.Queries.{pad_refusal, pressed_by_code, found_by, down_of, lowest_pressed, pad_down}
 use Rattle.pad.specs.Lookup.{place-stands}
 use Rattle.theory_calls.specs.Reach.{Reached}
 use Rattle.theory_history.specs.Lemmas.Truth.{false-true}
@@ -31,9 +28,8 @@ use Rattle.theory_down.specs.Asked.{Lowest, PressedAxis, none, least}
 
 -- ---- a registered pad of a reached hub
 
-truth-is : (b : Bool) → Is b ≡ Is true → b ≡ true
-truth-is true e = refl
-truth-is false e = let z : ◌≡◌ {A = ℕ} 0 1 = cc in absurd (omega arith)
+truth-is : (b : Bool) → ◌≡◌ {A = Result Bool Refusal} (Ok b) (Ok true) → b ≡ true
+truth-is b e = cc e
 
 module _ {h : Hub} (w : Reached h) (p : ℕ) (registered : p < h.pads) where
   few : p < pad_limit
@@ -45,7 +41,7 @@ module _ {h : Hub} (w : Reached h) (p : ℕ) (registered : p < h.pads) where
   unfolding is_registered
   unrefused = rw (lt-ltb p h.pads registered, lt-ltb p pad_limit few)
 
-  by_code : (c : ℕ) → pressed_by_code h p c ≡ Is (pressed_at h (place_in h p c))
+  by_code : (c : ℕ) → pressed_by_code h p c ≡ Ok (pressed_at h (place_in h p c))
   unfolding pressed_by_code
   by_code c = rw unrefused
 
@@ -65,8 +61,8 @@ module _ {h : Hub} (w : Reached h) (p : ℕ) (registered : p < h.pads) where
       subst (λ (q : ℕ). place_of h.codes q (code_at k) ≡ places_per_pad * p + k) pad
       ((reached-kept w).placed.found (places_per_pad * p + k) (omega arith) (omega arith) reads)
 
-  place_read : (k : ℕ) → k < places_per_pad → reads_on h p k ≡ true → pressed_by_code h p (code_at k) ≡ Is true
-  place_read k short reads = by_code (code_at k) ∙ ap (λ (b : Bool). Is b) (ap (λ (i : ℕ). pressed_at h i) (own-place k short reads) ∙ reads)
+  place_read : (k : ℕ) → k < places_per_pad → reads_on h p k ≡ true → pressed_by_code h p (code_at k) ≡ Ok true
+  place_read k short reads = by_code (code_at k) ∙ ap Ok (ap (λ (i : ℕ). pressed_at h i) (own-place k short reads) ∙ reads)
 
   -- a code that reads pressed has a place of the pad
   record At (c : ℕ) : Type 0 where
@@ -84,7 +80,7 @@ module _ {h : Hub} (w : Reached h) (p : ℕ) (registered : p < h.pads) where
   place-below c reads true e = ltb-true (place_in h p c) nowhere e
   place-below c reads false e = false-true (sym (past-reads (place_in h p c) (ltb-false (place_in h p c) nowhere e)) ∙ reads)
 
-  code_read : (c : ℕ) → pressed_by_code h p c ≡ Is true → At c
+  code_read : (c : ℕ) → pressed_by_code h p c ≡ Ok true → At c
   code_read c read =
       let reads = truth-is (pressed_at h (place_in h p c)) (sym (by_code c) ∙ read) in
       let s = place-stands h.codes p c (place-below c reads (ltb (place_in h p c) nowhere) refl) in
@@ -102,7 +98,7 @@ module _ {h : Hub} (w : Reached h) (p : ℕ) (registered : p < h.pads) where
   -- ---- down
 
   -- "the number of pressed elements on each pad and whether any axis element reads pressed"
-  pub down_answers : down_of h p ≡ Down (pressed_on h p) (ltb 0 (pressed_axes_on h p))
+  pub down_answers : down_of h p ≡ Ok (pad_down (pressed_on h p) (ltb 0 (pressed_axes_on h p)))
   unfolding down_of
   down_answers = rw (unrefused, summed.count p few, summed.axes p few)
 
@@ -151,7 +147,7 @@ module _ {h : Hub} (w : Reached h) (p : ℕ) (registered : p < h.pads) where
       let climbs = (never-falls w p registered).rises (places_per_pad * p + lowest_of bits) (places_per_pad * p + a.k) (omega arith) (omega arith) (omega arith) in
       omega arith
 
-  none_reads : places_per_pad ≤ lowest_of bits → (c : ℕ) (b : Bool) → pressed_by_code h p c ≡ Is b → b ≡ false
+  none_reads : places_per_pad ≤ lowest_of bits → (c : ℕ) (b : Bool) → pressed_by_code h p c ≡ Ok b → b ≡ false
   none_reads past c false read = refl
   none_reads past c true read =
       let a = code_read c read in
@@ -159,7 +155,7 @@ module _ {h : Hub} (w : Reached h) (p : ℕ) (registered : p < h.pads) where
       let from = not-before a.k a.short a.reads (ltb a.k (lowest_of bits)) refl in
       absurd (omega arith)
 
-  lowest_by : (some : Bool) → ltb (lowest_of bits) places_per_pad ≡ some → Lowest h p (number_by 0 some (code_at (lowest_of bits)))
+  lowest_by : (some : Bool) → ltb (lowest_of bits) places_per_pad ≡ some → Lowest h p (found_by 0 some (code_at (lowest_of bits)))
   lowest_by true e =
       let k = lowest_of bits in
       let short = ltb-true k places_per_pad e in
@@ -167,31 +163,31 @@ module _ {h : Hub} (w : Reached h) (p : ℕ) (registered : p < h.pads) where
       least (code_at k) (place_read k short reads) (λ d read. least-code d (code_read d read))
   lowest_by false e =
       let past = ltb-false (lowest_of bits) places_per_pad e in
-      none (λ c. by_code c ∙ ap (λ (b : Bool). Is b) (none_reads past c (pressed_at h (place_in h p c)) (by_code c)))
+      none (λ c. by_code c ∙ ap Ok (none_reads past c (pressed_at h (place_in h p c)) (by_code c)))
 
   pub lowest-is : Lowest h p (lowest_pressed h p)
   unfolding lowest_pressed
   lowest-is = rw unrefused (lowest_by (ltb (lowest_of bits) places_per_pad) refl)
 
   -- "which says that there is none exactly when no record is pressed": by codes, and by the fresh count
-  pub absent_none : lowest_pressed h p ≡ number_answer.Absent → (c : ℕ) → pressed_by_code h p c ≡ Is false
+  pub absent_none : lowest_pressed h p ≡ Ok None → (c : ℕ) → pressed_by_code h p c ≡ Ok false
   absent_none absent = by (lowest_pressed h p) lowest-is absent
     where
-      by : (a : NumberAnswer) → Lowest h p a → a ≡ number_answer.Absent → (c : ℕ) → pressed_by_code h p c ≡ Is false
+      by : (a : Result (Option ℕ) Refusal) → Lowest h p a → a ≡ Ok None → (c : ℕ) → pressed_by_code h p c ≡ Ok false
       by a (none all) e = all
       by a (least c read less) e = let z : ◌≡◌ {A = ℕ} 0 1 = cc in absurd (omega arith)
 
-  pub none-absent : ((c : ℕ) → pressed_by_code h p c ≡ Is false) → lowest_pressed h p ≡ number_answer.Absent
+  pub none-absent : ((c : ℕ) → pressed_by_code h p c ≡ Ok false) → lowest_pressed h p ≡ Ok None
   none-absent all = by (lowest_pressed h p) lowest-is
     where
-      by : (a : NumberAnswer) → Lowest h p a → a ≡ number_answer.Absent
+      by : (a : Result (Option ℕ) Refusal) → Lowest h p a → a ≡ Ok None
       by a (none same) = refl
       by a (least c read less) =
           let down = all c in
           let z : ◌≡◌ {A = ℕ} 0 1 = cc in
           absurd (omega arith)
 
-  pub absent-zero : lowest_pressed h p ≡ number_answer.Absent → pressed_on h p ≡ 0
+  pub absent-zero : lowest_pressed h p ≡ Ok None → pressed_on h p ≡ 0
   absent-zero absent = count_none (λ k. reads_on h p k) places_per_pad (λ k short. by k short (reads_on h p k) refl)
     where
       by : (k : ℕ) → k < places_per_pad → (b : Bool) → reads_on h p k ≡ b → b ≡ false
@@ -202,10 +198,10 @@ module _ {h : Hub} (w : Reached h) (p : ℕ) (registered : p < h.pads) where
           absurd (omega arith)
       by k short false reads = refl
 
-  pub zero-absent : pressed_on h p ≡ 0 → lowest_pressed h p ≡ number_answer.Absent
+  pub zero-absent : pressed_on h p ≡ 0 → lowest_pressed h p ≡ Ok None
   zero-absent zeros = by (lowest_pressed h p) lowest-is
     where
-      by : (a : NumberAnswer) → Lowest h p a → a ≡ number_answer.Absent
+      by : (a : Result (Option ℕ) Refusal) → Lowest h p a → a ≡ Ok None
       by a (none same) = refl
       by a (least c read less) =
           let at = code_read c read in

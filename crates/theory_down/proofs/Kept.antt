@@ -1,12 +1,11 @@
 -- W-213 on the hub: "It must equal the fresh count over the records after every call". Every step keeps the summary, and every hub that the public calls reach has
 -- it, wherever a pump stopped. By induction on the calls.
-use Rattle.std.specs.Prelude.{ℕ, zero, suc, ◌+◌, ◌*◌, Bool, true, false, List, ◌≡◌, Float}
+use Rattle.std.specs.Prelude.{ℕ, zero, suc, ◌+◌, ◌*◌, Bool, true, false, List, ◌≡◌, Float, None, Option, Some}
 use Rattle.std.proofs.Math.Path.{refl}
 use Rattle.std.proofs.Common.{arith}
 use Rattle.rules.specs.declared.Hub.{Hub}
-use Rattle.rules.specs.declared.EventRead.{EventRead}
-use Rattle.rules.specs.declared.EventRead.TheVariants as event_read
 use Rattle.rules.specs.declared.NextRecord.{NextRecord}
+use Rattle.rules.specs.declared.EventForm.{EventForm}
 use Rattle.rules.specs.Names.{pad_limit, places_per_pad, nowhere}
 use Rattle.rules.specs.Forms.{read_event}
 use Rattle.rules.specs.Refusals.{thresholds_refusal, form_refusal, insert_refusal}
@@ -89,23 +88,23 @@ rename-kept (suc number) h pad list w = w
 step_kept : (h : Hub) (l : NextRecord) → Kept h → Kept (step_hub h l)
 step_kept h l w = record { good = step-good h l w.good; placed = step-placed h l w.good.whole w.placed }
 
-update-kept : (r : EventRead) (h : Hub) → Kept h → Kept (update_by r h).hub
-update-kept (event_read.Form f) h w = by (form_refusal f h.pads (form_place h f))
+update-kept : (r : Option EventForm) (h : Hub) → Kept h → Kept (update_by r h).hub
+update-kept (Some f) h w = by (form_refusal f h.pads (form_place h f))
   where
     by : (number : ℕ) → Kept (update_form_by number h f).hub
     by zero =
         record { good = updated-good true h (form_event f) w.good; placed = updated-placed true h (form_event f) w.good.whole w.placed }
     by (suc number) = w
-update-kept event_read.Malformed h w = w
+update-kept None h w = w
 
-insert-kept : (r : EventRead) (h : Hub) → Kept h → Kept (insert_by r h).hub
+insert-kept : (r : Option EventForm) (h : Hub) → Kept h → Kept (insert_by r h).hub
 unfolding inserted_at
-insert-kept (event_read.Form f) h w = by (insert_refusal f h.pads (form_place h f) h.waiting)
+insert-kept (Some f) h w = by (insert_refusal f h.pads (form_place h f) h.waiting)
   where
     by : (number : ℕ) → Kept (insert_form_by number h f).hub
     by zero = same_kept h _ refl w
     by (suc number) = w
-insert-kept event_read.Malformed h w = w
+insert-kept None h w = w
 
 counted-kept : (h : Hub) (n : ℕ) → Kept h → Kept (counted_at h n)
 unfolding counted_at

@@ -1,12 +1,10 @@
 -- W-213's sentences on 01's padlog example, computed by the checker; and statements that are too strong, refuted (one of
 -- them, that a step keeps the summary on any hub, in `proofs/Example.antt`).
-use Rattle.std.specs.Prelude.{ℕ, ◌+◌, ◌*◌, ◌^◌, ◌≡◌, refl, true, false, not, ◌&&◌, List, [], ◌∷◌, ◌++◌, eqb, pos, negsuc, get_or}
+use Rattle.std.specs.Prelude.{ℕ, ◌+◌, ◌*◌, ◌^◌, ◌≡◌, refl, true, false, not, ◌&&◌, List, [], ◌∷◌, ◌++◌, eqb, pos, negsuc, get_or, None, Ok, Some}
 use Rattle.std.proofs.Common.{sym, ◌∙◌, arith}
 use Rattle.std.specs.Float.Ieee as Ieee
 use Rattle.rules.specs.declared.Hub.{Hub}
 use Rattle.rules.specs.declared.NextRecord.{NextRecord}
-use Rattle.rules.specs.declared.NumberAnswer.TheVariants.{Number, Absent}
-use Rattle.rules.specs.declared.DownAnswer.TheVariants.{Down}
 use Rattle.rules.specs.Names.{places_per_pad, code_left}
 use Rattle.rules.specs.Forms.{record_bytes, kind_connected}
 use Rattle.rules.specs.Setters.{with_down}
@@ -14,7 +12,7 @@ use Rattle.rules.specs.Hub.{kind_at, button_at, pressed_at}
 use Rattle.rules.specs.Down.{has_bit, lowest_of}
 use Rattle.rules.specs.Step.{next_record_of, step_hub}
 use Rattle.rules.specs.Pump.{pump_of}
-use Rattle.rules.specs.Queries.{down_of, lowest_pressed}
+use Rattle.rules.specs.Queries.{down_of, lowest_pressed, pad_down}
 use Rattle.theory_calls.specs.Reach.{Reached, new, register}
 use Rattle.theory_calls.specs.Machines.{bare, sheet, desk, move, room, allowed}
 use Rattle.theory_history.specs.Lemmas.Truth.{true-false}
@@ -31,7 +29,7 @@ unfoldable held : Hub
 unfolding after move
 held = after (move (negsuc 0) 100)
 
-held-answers : (down_of held 0 ≡ Down 1 false) × (lowest_pressed held 0 ≡ Number code_left)
+held-answers : (down_of held 0 ≡ Ok (pad_down 1 false)) × (lowest_pressed held 0 ≡ Ok (Some code_left))
 unfolding held down_of lowest_pressed
 held-answers = (refl, refl)
 
@@ -50,7 +48,7 @@ unfoldable joined : Hub
 unfolding after move record_bytes
 joined = after (move (negsuc 0) 100 ++ record_bytes (record { kind = kind_connected; pad = 0; code = 0; value = pos 0; time = 200 }))
 
-joined-answers : (down_of joined 0 ≡ Down 0 false) × (lowest_pressed joined 0 ≡ Absent)
+joined-answers : (down_of joined 0 ≡ Ok (pad_down 0 false)) × (lowest_pressed joined 0 ≡ Ok None)
 unfolding joined down_of lowest_pressed
 joined-answers = (refl, refl)
 

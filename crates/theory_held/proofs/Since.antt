@@ -2,7 +2,7 @@
 -- applied since the pad's last Connected, or registration. So its `since` is the time at which it last went from not pressed to pressed. By induction on the
 -- calls.
 use Prim.Native.Nat.{ℕ, zero, suc, ◌+◌, ◌<◌}
-use Rattle.std.specs.Prelude.{Bool, false, cond, ◌≡◌, eqb, ltb, Float}
+use Rattle.std.specs.Prelude.{Bool, false, cond, ◌≡◌, eqb, ltb, Float, None, Ok, Option, Some}
 use Rattle.std.proofs.Math.Bool.{true}
 use mathlib.Core.List.{List, []}
 use Rattle.std.proofs.Math.Path.{refl}
@@ -13,10 +13,8 @@ use Rattle.std.proofs.lemmas.Bool.{eqb-false}
 use Rattle.rules.specs.declared.Hub.{Hub}
 use Rattle.rules.specs.declared.Event.{Event}
 use Rattle.rules.specs.declared.NextRecord.{NextRecord}
-use Rattle.rules.specs.declared.EventRead.{EventRead}
-use Rattle.rules.specs.declared.EventRead.TheVariants as event_read
 use Rattle.rules.specs.declared.ButtonData.{ButtonData}
-use Rattle.rules.specs.declared.ButtonAnswer.TheVariants as button_answer
+use Rattle.rules.specs.declared.EventForm.{EventForm}
 use Rattle.rules.specs.Names.{nowhere}
 use Rattle.rules.specs.Forms.{read_event}
 use Rattle.rules.specs.Refusals.{thresholds_refusal, is_registered, form_refusal, insert_refusal, unless_fits}
@@ -25,7 +23,7 @@ use Rattle.rules.specs.State.{read_pressed}
 use Rattle.rules.specs.Hub.{place_in, has_button_at, button_at}
 use Rattle.rules.specs.Step.{marked_of, filtered_hub, pushed_of, updated_at, updated_of, step_event, step_hub}
 use Rattle.rules.specs.Calls.{fresh_hub, idle_hub, new_by, new_of, registered_at, register_refusal, register_by, register_as, renamed_at, rename_refusal, rename_by, rename_of, form_place, update_form_by, update_by, update_of, inserted_at, insert_form_by, insert_by, insert_of, counted_at, inc_of, reset_of}
-use Rattle.rules.specs.Queries.{pad_refusal, button_by, button_by_code}
+use Rattle.rules.specs.Queries.{pad_refusal, found_by, button_by_code}
 use Rattle.theory_calls.specs.Reach.{Reached, new, register, rename, step, update, insert, inc, reset}
 use Rattle.theory_history.specs.Lemmas.Truth.{false-true}
 use Rattle.theory_history.specs.Lemmas.Cells.{Long}
@@ -72,23 +70,23 @@ module _ (p c : ℕ) where
         let place : place_in h p c < nowhere = unfold step_hub updated_of updated_at filtered_hub pushed_of marked_of in here in
         step-tells h p c place long es (w stands place) l
 
-    update-holds : (r : EventRead) → Long h → Holds (update_by r h).hub p c (fed r h p c es)
+    update-holds : (r : Option EventForm) → Long h → Holds (update_by r h).hub p c (fed r h p c es)
     unfolding updated_of updated_at
-    update-holds (event_read.Form f) long = by (form_refusal f h.pads (form_place h f))
+    update-holds (Some f) long = by (form_refusal f h.pads (form_place h f))
       where
         by : (number : ℕ) → Holds (update_form_by number h f).hub p c (fed_form number f p c es)
         by zero = λ short here. applied h p c here long (form_event f) es (w short here) true
         by (suc number) = w
-    update-holds event_read.Malformed long = w
+    update-holds None long = w
 
-    insert-holds : (r : EventRead) → Holds (insert_by r h).hub p c es
+    insert-holds : (r : Option EventForm) → Holds (insert_by r h).hub p c es
     unfolding inserted_at
-    insert-holds (event_read.Form f) = by (insert_refusal f h.pads (form_place h f) h.waiting)
+    insert-holds (Some f) = by (insert_refusal f h.pads (form_place h f) h.waiting)
       where
         by : (number : ℕ) → Holds (insert_form_by number h f).hub p c es
         by zero = w
         by (suc number) = w
-    insert-holds event_read.Malformed = w
+    insert-holds None = w
 
   holds : {h : Hub} (w : Reached h) → Holds h p c (applied_to p c w)
   unfolding applied_to new_of register_as rename_of update_of insert_of inc_of reset_of counted_at
@@ -104,7 +102,7 @@ module _ (p c : ℕ) where
 -- ---- what is read
 
 -- an answer with a record: the pad is registered, and the record is there
-answered : (number : ℕ) (there : Bool) (stored b : ButtonData) → button_by number there stored ≡ button_answer.Data b
+answered : {A : Type 0} (number : ℕ) (there : Bool) (stored b : A) → found_by number there stored ≡ Ok (Some b)
     → (number ≡ 0) × (there ≡ true) × (stored ≡ b)
 answered zero true stored b e = (refl, refl, cc)
 answered zero false stored b e = let z : ◌≡◌ {A = ℕ} 0 1 = cc in absurd (omega arith)
@@ -115,7 +113,7 @@ unfolding is_registered
 registered pads p true e fits = ltb-true p pads e
 registered pads p false e fits = let z : ◌≡◌ {A = ℕ} 6 0 = rw e at fits in absurd (omega arith)
 
-module _ {h : Hub} (w : Reached h) (p c : ℕ) (b : ButtonData) (e : button_by_code h p c ≡ button_answer.Data b) where
+module _ {h : Hub} (w : Reached h) (p c : ℕ) (b : ButtonData) (e : button_by_code h p c ≡ Ok (Some b)) where
   stands : (inside : Bool) → ltb (place_in h p c) nowhere ≡ inside → has_button_at h (place_in h p c) ≡ true → place_in h p c < nowhere
   stands true i has = ltb-true (place_in h p c) nowhere i
   stands false i has =

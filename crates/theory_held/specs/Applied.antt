@@ -1,14 +1,11 @@
 -- The events that were applied to the state: of one pad and code, since the pad's last Connected, or registration, the newest first. What the public calls
 -- were given and answered decides it; the hub's columns of records do not. Definitions only.
-use Rattle.std.specs.Prelude.{ℕ, zero, suc, Bool, true, false, cond, ◌&&◌, List, [], ◌∷◌, eqb}
+use Rattle.std.specs.Prelude.{ℕ, zero, suc, Bool, true, false, cond, ◌&&◌, List, [], ◌∷◌, eqb, Err, None, Ok, Option, Result, Some}
 use Rattle.rules.specs.declared.Hub.{Hub}
 use Rattle.rules.specs.declared.Event.{Event}
 use Rattle.rules.specs.declared.EventForm.{EventForm}
-use Rattle.rules.specs.declared.EventRead.{EventRead}
-use Rattle.rules.specs.declared.EventRead.TheVariants as event_read
 use Rattle.rules.specs.declared.NextRecord.{NextRecord}
-use Rattle.rules.specs.declared.RegisterAnswer.{RegisterAnswer}
-use Rattle.rules.specs.declared.RegisterAnswer.TheVariants as register_answer
+use Rattle.rules.specs.declared.Refusal.{Refusal}
 use Rattle.rules.specs.Forms.{read_event, kind_connected}
 use Rattle.rules.specs.Refusals.{form_refusal}
 use Rattle.rules.specs.Events.{code_of, form_event}
@@ -29,14 +26,14 @@ abbrev pub fed_form : ℕ → EventForm → ℕ → ℕ → List Event → List 
 fed_form zero f p c es = noted true p c (form_event f) es
 fed_form (suc number) f p c es = es
 
-abbrev pub fed : EventRead → Hub → ℕ → ℕ → List Event → List Event
-fed (event_read.Form f) h p c es = fed_form (form_refusal f h.pads (form_place h f)) f p c es
-fed event_read.Malformed h p c es = es
+abbrev pub fed : Option EventForm → Hub → ℕ → ℕ → List Event → List Event
+fed (Some f) h p c es = fed_form (form_refusal f h.pads (form_place h f)) f p c es
+fed None h p c es = es
 
 -- a pad begins anew where it is registered, and where its Connected is taken
-abbrev pub joins : RegisterAnswer → ℕ → Bool
-joins (register_answer.Pad q) p = eqb q p
-joins (register_answer.Refused number) p = false
+abbrev pub joins : Result ℕ Refusal → ℕ → Bool
+joins (Ok q) p = eqb q p
+joins (Err e) p = false
 
 abbrev pub connects : NextRecord → ℕ → Bool
 connects l p = eqb l.raw.kind kind_connected && eqb l.raw.pad p

@@ -1,11 +1,10 @@
 -- The columns of the state are as long as a fresh hub's on every hub that the public calls reach: a mark is set or taken off, and a record stored, where it stands.
-use Rattle.std.specs.Prelude.{ℕ, zero, suc, ◌*◌, Bool, List, ◌≡◌, refl, Float, length, set}
+use Rattle.std.specs.Prelude.{ℕ, zero, suc, ◌*◌, Bool, List, ◌≡◌, refl, Float, length, set, None, Option, Some}
 use Rattle.std.proofs.Common.{◌∙◌, length-set}
 use Rattle.rules.specs.declared.Hub.{Hub}
 use Rattle.rules.specs.declared.Event.{Event}
-use Rattle.rules.specs.declared.EventRead.{EventRead}
-use Rattle.rules.specs.declared.EventRead.TheVariants as event_read
 use Rattle.rules.specs.declared.NextRecord.{NextRecord}
+use Rattle.rules.specs.declared.EventForm.{EventForm}
 use Rattle.rules.specs.Names.{places_per_pad}
 use Rattle.rules.specs.Forms.{read_event}
 use Rattle.rules.specs.Refusals.{thresholds_refusal, form_refusal, insert_refusal}
@@ -64,22 +63,22 @@ taken-long h l w =
       hasaxis = cleared-length n h.hasaxis (places_per_pad * l.raw.pad) ∙ w.hasaxis;
     }
 
-update-long : (r : EventRead) (h : Hub) → Long h → Long (update_by r h).hub
-update-long (event_read.Form f) h w = by (form_refusal f h.pads (form_place h f))
+update-long : (r : Option EventForm) (h : Hub) → Long h → Long (update_by r h).hub
+update-long (Some f) h w = by (form_refusal f h.pads (form_place h f))
   where
     by : (number : ℕ) → Long (update_form_by number h f).hub
     by zero = updated-long _ h (form_event f) w
     by (suc number) = w
-update-long event_read.Malformed h w = w
+update-long None h w = w
 
-insert-long : (r : EventRead) (h : Hub) → Long h → Long (insert_by r h).hub
+insert-long : (r : Option EventForm) (h : Hub) → Long h → Long (insert_by r h).hub
 unfolding inserted_at
-insert-long (event_read.Form f) h w = by (insert_refusal f h.pads (form_place h f) h.waiting)
+insert-long (Some f) h w = by (insert_refusal f h.pads (form_place h f) h.waiting)
   where
     by : (number : ℕ) → Long (insert_form_by number h f).hub
     by zero = same-long h _ refl refl refl w
     by (suc number) = w
-insert-long event_read.Malformed h w = w
+insert-long None h w = w
 
 pub reached-long : {h : Hub} → Reached h → Long h
 unfolding new_of register_as rename_of step_hub update_of insert_of inc_of reset_of counted_at

@@ -1,6 +1,6 @@
 -- Demand 3 for buttons and triggers: "when none wait, every button, trigger .. reads as 01's history rule says, which knows no queue". Whatever was played, by
 -- the queries that an overlay calls.
-use Rattle.std.specs.Prelude.{ℕ, ◌<◌, Bool, not, ◌&&◌, ◌||◌, List, [], ◌≡◌, eqb, Float, get_or}
+use Rattle.std.specs.Prelude.{ℕ, ◌<◌, Bool, not, ◌&&◌, ◌||◌, List, [], ◌≡◌, eqb, Float, get_or, Ok, Some}
 use Rattle.std.proofs.Math.Bool.{true, false}
 use Rattle.std.proofs.Math.Path.{refl}
 use Rattle.std.proofs.Common.{sym, ◌∙◌, ap, arith, lt-ltb, leb-true, eqb-true}
@@ -8,14 +8,12 @@ use Rattle.std.proofs.lemmas.Bool.{lt-leb}
 use Rattle.rules.specs.declared.Hub.{Hub}
 use Rattle.rules.specs.declared.Event.{Event}
 use Rattle.rules.specs.declared.RawRecord.{RawRecord}
-use Rattle.rules.specs.declared.TruthAnswer.TheVariants as truth_answer
-use Rattle.rules.specs.declared.ValueAnswer.TheVariants as value_answer
 use Rattle.rules.specs.Names.{pad_limit, nowhere, no_name, is_axis, is_button, is_hat, dpad_right, unknown_axis, dpad_x, positive_code, negative_code, code_up, code_down, code_left, code_right}
 use Rattle.rules.specs.Sheets.{element_button, element_axis}
-use Rattle.rules.specs.Refusals.{is_registered, unless_fits}
+use Rattle.rules.specs.Refusals.{is_registered, unless_fits, answer_by}
 use Rattle.rules.specs.State.{read_pressed, read_value}
 use Rattle.rules.specs.Hub.{place_in, kind_at, element_at, pressed_at, has_axis_at, value_at}
-use Rattle.rules.specs.Queries.{pad_refusal, truth_by, value_by, pressed_by_code, value_by_code}
+use Rattle.rules.specs.Queries.{pad_refusal, found_by, pressed_by_code, value_by_code}
 use Rattle.theory_calls.specs.Waiting.{waiting_list}
 use Rattle.theory_registered.specs.Pads.{Desk}
 use Rattle.theory_registered.proofs.Pads.{reached-desk, direction-kept}
@@ -69,22 +67,18 @@ module _ (h : Hub) (p c : ℕ) (free : (get_or h.converts p false && is_directio
 
 -- ---- the queries
 
-pub asked-pressed : (h : Hub) (p c : ℕ) → pressed_by_code h p c ≡ truth_by (pad_refusal h p) (pressed_at h (place_in h p c))
+pub asked-pressed : (h : Hub) (p c : ℕ) → pressed_by_code h p c ≡ answer_by (pad_refusal h p) (pressed_at h (place_in h p c))
 unfolding pressed_by_code
 asked-pressed h p c = refl
 
-pub asked-value : (h : Hub) (p c : ℕ) → value_by_code h p c ≡ value_by (pad_refusal h p) true (value_at h (place_in h p c))
+pub asked-value : (h : Hub) (p c : ℕ) → value_by_code h p c ≡ found_by (pad_refusal h p) true (value_at h (place_in h p c))
 unfolding value_by_code
 asked-value h p c = refl
 
 -- of a registered pad they are not refused
-pub standing-truth : (pads p : ℕ) (b : Bool) → p < pads → p < pad_limit → truth_by (unless_fits (is_registered pads p) 6) b ≡ truth_answer.Is b
+pub standing : {A : Type 0} (pads p : ℕ) (x : A) → p < pads → p < pad_limit → answer_by (unless_fits (is_registered pads p) 6) x ≡ Ok x
 unfolding is_registered
-standing-truth pads p b old few = rw (lt-ltb p pads old, lt-ltb p pad_limit few)
-
-pub standing-value : (pads p : ℕ) (v : Float) → p < pads → p < pad_limit → value_by (unless_fits (is_registered pads p) 6) true v ≡ value_answer.Value v
-unfolding is_registered
-standing-value pads p v old few = rw (lt-ltb p pads old, lt-ltb p pad_limit few)
+standing pads p x old few = rw (lt-ltb p pads old, lt-ltb p pad_limit few)
 
 -- they read the button record, where there is no axis record
 pub cell-pressed : (h : Hub) (k : ℕ) → pressed_at h k ≡ cell_pressed (cell_at h k)
@@ -112,10 +106,10 @@ module _ {h : Hub} {rs : List RawRecord} (w : Played h rs) (none : h.waiting ≡
       let few = (reached-desk (reached w)).few in
       let value = due-none (sheet_of h) (place_in h p c) (waiting_list h) (cell_value (cell_at h (place_in h p c))) (none-waits h none) in
       record {
-        pressed = asked-pressed h p c ∙ (standing-truth h.pads p _ old (omega arith) ∙ ap truth_answer.Is (cell-pressed h (place_in h p c) ∙ t.pressed));
+        pressed = asked-pressed h p c ∙ (standing h.pads p _ old (omega arith) ∙ ap Ok (cell-pressed h (place_in h p c) ∙ t.pressed));
         value =
             asked-value h p c
-            ∙ (standing-value h.pads p _ old (omega arith) ∙ ap value_answer.Value (cell-value h (place_in h p c) t.still ∙ (sym value ∙ t.value)));
+            ∙ (standing h.pads p _ old (omega arith) ∙ ap (λ (v : Float). Ok (Some v)) (cell-value h (place_in h p c) t.still ∙ (sym value ∙ t.value)));
       }
 
   -- "A button element named as a button or unnamed: pressed and value as its last record, false and 0.0 if none"; "On converting pads direction codes

@@ -1,7 +1,7 @@
 -- Demand 3 for hats: "Right is pressed exactly when the last DPadX value was 1.0, Left when it was -1.0; pressed reads 1.0, else 0.0; Up and Down the same with
 -- DPadY", on a converting pad, for each direction that its sheet does not list, whatever it says of the opposite one; and "opposite directions never read pressed
 -- together", also while events wait, where it lists neither.
-use Rattle.std.specs.Prelude.{ℕ, ◌<◌, Bool, ◌&&◌, ◌≡◌, eqb, Float, get_or}
+use Rattle.std.specs.Prelude.{ℕ, ◌<◌, Bool, ◌&&◌, ◌≡◌, eqb, Float, get_or, Ok, Some}
 use Rattle.std.proofs.Math.Bool.{true, false}
 use mathlib.Core.List.{List}
 use Rattle.std.proofs.Math.Path.{refl, ap, subst}
@@ -12,8 +12,6 @@ use Rattle.rules.specs.declared.Hub.{Hub}
 use Rattle.rules.specs.declared.Event.{Event}
 use Rattle.rules.specs.declared.Element.{Element}
 use Rattle.rules.specs.declared.RawRecord.{RawRecord}
-use Rattle.rules.specs.declared.TruthAnswer.TheVariants as truth_answer
-use Rattle.rules.specs.declared.ValueAnswer.TheVariants as value_answer
 use Rattle.rules.specs.Names.{nowhere, no_name, is_axis, is_hat, dpad_x, positive_code, negative_code}
 use Rattle.rules.specs.Hub.{place_in, kind_at, element_at}
 use Rattle.rules.specs.Queries.{pressed_by_code}
@@ -30,7 +28,7 @@ use Rattle.theory_history.specs.Lemmas.Sides.{Shows, Side}
 use Rattle.theory_history.specs.Lemmas.Hats.{Unlisted}
 use Rattle.theory_history.proofs.Lemmas.Dpad.{sides}
 use Rattle.theory_history.proofs.Lemmas.Opposites.{opposed}
-use Rattle.theory_history.proofs.Demand.{asked-pressed, asked-value, standing-truth, standing-value, cell-pressed, cell-value}
+use Rattle.theory_history.proofs.Demand.{asked-pressed, asked-value, standing, cell-pressed, cell-value}
 
 module _ {h : Hub} {rs : List RawRecord} (w : Played h rs) (p n : ℕ) (old : p < h.pads) (converts : get_or h.converts p false ≡ true)
     (hat : is_hat n ≡ true) where
@@ -53,10 +51,10 @@ module _ {h : Hub} {rs : List RawRecord} (w : Played h rs) (p n : ℕ) (old : p 
         none = none;
       }
 
-  asked : (c : ℕ) → pressed_by_code h p c ≡ truth_answer.Is (cell_pressed (cell_at h (place_in h p c)))
+  asked : (c : ℕ) → pressed_by_code h p c ≡ Ok (cell_pressed (cell_at h (place_in h p c)))
   asked c =
       let few = (reached-desk (reached w)).few in
-      asked-pressed h p c ∙ (standing-truth h.pads p _ old (omega arith) ∙ ap truth_answer.Is (cell-pressed h (place_in h p c)))
+      asked-pressed h p c ∙ (standing h.pads p _ old (omega arith) ∙ ap Ok (cell-pressed h (place_in h p c)))
 
   -- ---- when none wait: name_of and element_of are what the pad's sheet says of a code
 
@@ -74,8 +72,8 @@ module _ {h : Hub} {rs : List RawRecord} (w : Played h rs) (p n : ℕ) (old : p 
         let k = place_in h p c in
         let shows : Shows (cell_at h k) b = subst (λ (q : List Event). Shows (writes (sheet_of h) k q (cell_at h k)) b) (none-waits h none) t.shows in
         record {
-          pressed = asked c ∙ ap truth_answer.Is shows.pressed;
-          value = asked-value h p c ∙ (standing-value h.pads p _ old (omega arith) ∙ ap value_answer.Value (cell-value h k t.still ∙ shows.value));
+          pressed = asked c ∙ ap Ok shows.pressed;
+          value = asked-value h p c ∙ (standing h.pads p _ old (omega arith) ∙ ap (λ (v : Float). Ok (Some v)) (cell-value h k t.still ∙ shows.value));
         }
 
     direction : (positive : Bool) → kind_at h (place_in h p (direction_code positive n)) ≡ 0
@@ -101,7 +99,7 @@ module _ {h : Hub} {rs : List RawRecord} (w : Played h rs) (p n : ℕ) (old : p 
         (opposed p n w (unlisted true no_plus) (unlisted false no_minus))
 
     -- by the queries
-    pub opposites-read : pressed_by_code h p (positive_code n) ≡ truth_answer.Is true → pressed_by_code h p (negative_code n) ≡ truth_answer.Is false
+    pub opposites-read : pressed_by_code h p (positive_code n) ≡ Ok true → pressed_by_code h p (negative_code n) ≡ Ok false
     opposites-read plus =
         let down : cell_pressed (cell_at h (place_in h p (positive_code n))) ≡ true = cc (asked (positive_code n)) in
-        asked (negative_code n) ∙ ap truth_answer.Is (rw down at opposites)
+        asked (negative_code n) ∙ ap Ok (rw down at opposites)

@@ -2,7 +2,7 @@
 -- that reads pressed. The place is due, so its record is there and pressed, and the lookup of its code finds it; the event's time is no later than the
 -- clock, and its code has four bytes, so the bytes hold all of the event.
 use Prim.Native.Nat.{ℕ, zero, suc, ◌+◌, ◌-◌, ◌/◌, ◌<◌, ◌≤◌}
-use Rattle.std.specs.Prelude.{Bool, cond, ◌&&◌, List, ◌≡◌, ltb, leb}
+use Rattle.std.specs.Prelude.{Bool, cond, ◌&&◌, List, ◌≡◌, ltb, leb, Ok, Some}
 use Rattle.std.proofs.Math.Bool.{true, false}
 use Rattle.std.proofs.Math.Path.{refl, ap}
 use Rattle.std.proofs.Common.{◌∙◌, subst, arith, ltb-true, leb-true}
@@ -12,7 +12,6 @@ use Rattle.rules.specs.declared.Hub.{Hub}
 use Rattle.rules.specs.declared.Event.{Event}
 use Rattle.rules.specs.declared.ButtonData.{ButtonData}
 use Rattle.rules.specs.declared.RawRecord.{RawRecord}
-use Rattle.rules.specs.declared.RepeatAnswer.TheVariants as repeat_answer
 use Rattle.rules.specs.Names.{places_per_pad, nowhere, last_time, last_wait, is_button}
 use Rattle.rules.specs.Forms.{name_fits}
 use Rattle.rules.specs.Refusals.{unless_fits, time_fits, repeat_refusal}
@@ -30,7 +29,7 @@ use Rattle.theory_history.specs.Lemmas.Small.{Small}
 
 -- ---- what an answer says
 
-repeat-due : (number : ℕ) (stands : Bool) (e d : Event) → repeat_by number stands d ≡ repeat_answer.Due e → (number ≡ 0) × (stands ≡ true) × (d ≡ e)
+repeat-due : (number : ℕ) (stands : Bool) (e d : Event) → repeat_by number stands d ≡ Ok (Some e) → (number ≡ 0) × (stands ≡ true) × (d ≡ e)
 repeat-due zero true e d is = (refl, refl, cc)
 repeat-due zero false e d is = let z : ◌≡◌ {A = ℕ} 0 1 = cc in absurd (omega arith)
 repeat-due (suc number) stands e d is = let z : ◌≡◌ {A = ℕ} 0 1 = cc in absurd (omega arith)
@@ -127,7 +126,7 @@ module _ {h : Hub} {rs : List RawRecord} (w : Played h rs) (small : Small h) (af
 
 -- "a repeat is fed back through `update`": what the call answers may be fed back
 pub repeats : {h : Hub} {rs : List RawRecord} → Played h rs → Small h → (after every clock : ℕ) (e : Event)
-    → repeat_of h after every clock ≡ repeat_answer.Due e → Repeats h (event_bytes e)
+    → repeat_of h after every clock ≡ Ok (Some e) → Repeats h (event_bytes e)
 unfolding repeat_of
 repeats {h} w small after every clock e answered =
     let k = due_place h after every clock in

@@ -1,13 +1,11 @@
 -- The calls that demand 3 speaks of, and the records that were taken: a fresh hub with filters and updates on, registration, steps that take a record on an
 -- empty queue or serve an event that waits, the counter, and a repeat that is fed back while its button is held.
-use Rattle.std.specs.Prelude.{ℕ, zero, suc, ◌*◌, ◌<◌, Bool, true, false, List, [], ◌∷◌, ◌≡◌, refl, eqb, ltb, Float, length, set}
+use Rattle.std.specs.Prelude.{ℕ, zero, suc, ◌*◌, ◌<◌, Bool, true, false, List, [], ◌∷◌, ◌≡◌, refl, eqb, ltb, Float, length, set, Option, Some}
 use Rattle.std.proofs.Common.{◌∙◌, ap, length-set, arith}
 use Rattle.rules.specs.declared.Hub.{Hub}
 use Rattle.rules.specs.declared.Event.{Event}
 use Rattle.rules.specs.declared.EventForm.{EventForm}
 use Rattle.rules.specs.declared.EventType.TheVariants.{Repeated}
-use Rattle.rules.specs.declared.EventRead.{EventRead}
-use Rattle.rules.specs.declared.EventRead.TheVariants as event_read
 use Rattle.rules.specs.declared.RawRecord.{RawRecord}
 use Rattle.rules.specs.Names.{pad_limit, places_per_pad}
 use Rattle.rules.specs.Forms.{read_event}
@@ -24,7 +22,7 @@ use Rattle.theory_history.specs.Lemmas.Steps.{Ready, set-down, step-ready, look,
 -- a held button's repeat, as bytes
 pub record Repeats (h : Hub) (bytes : List ℕ) : Type 0 where
   pub form : EventForm
-  pub read : read_event bytes ≡ event_read.Form form
+  pub read : read_event bytes ≡ Some form
   pub name : ℕ
   pub code : ℕ
   pub is : (form_event form).event ≡ Repeated name code
@@ -123,7 +121,7 @@ refusal h bytes is = form_refusal is.form h.pads (form_place h is.form)
 
 pub update-is : (h : Hub) (bytes : List ℕ) (is : Repeats h bytes) → (update_of h bytes).hub ≡ (update_form_by (refusal h bytes is) h is.form).hub
 unfolding update_of
-update-is h bytes is = ap (λ (r : EventRead). (update_by r h).hub) is.read
+update-is h bytes is = ap (λ (r : Option EventForm). (update_by r h).hub) is.read
 
 pub ready : {h : Hub} {rs : List RawRecord} → Played h rs → Ready h
 unfolding new_of register_as inc_of reset_of

@@ -1,6 +1,6 @@
 -- 01's history rule: what a code of a pad reads, told from the records that were taken, the newest first, and from the sheet. It knows no queue, no filter's
 -- state and no cached record. Definitions only.
-use Rattle.std.specs.Prelude.{ℕ, zero, suc, ◌+◌, ◌<◌, Bool, true, false, cond, not, ◌&&◌, ◌||◌, List, [], ◌∷◌, ◌≡◌, eqb, Float, get_or}
+use Rattle.std.specs.Prelude.{ℕ, zero, suc, ◌+◌, ◌<◌, Bool, true, false, cond, not, ◌&&◌, ◌||◌, List, [], ◌∷◌, ◌≡◌, eqb, Float, get_or, Ok, Some}
 use Rattle.std.specs.Float.Ieee.{le}
 use Rattle.numbers.specs.Constants.{zero32, one32, minus_one32}
 use Rattle.numbers.specs.Scale.{axis_scaled_of, button_scaled_of}
@@ -8,8 +8,6 @@ use Rattle.numbers.specs.Deadzone.{deadzone_of}
 use Rattle.rules.specs.declared.Hub.{Hub}
 use Rattle.rules.specs.declared.RawRecord.{RawRecord}
 use Rattle.rules.specs.declared.Element.{Element}
-use Rattle.rules.specs.declared.TruthAnswer.TheVariants as truth_answer
-use Rattle.rules.specs.declared.ValueAnswer.TheVariants as value_answer
 use Rattle.rules.specs.Names.{is_y, positive_code, negative_code, code_up, code_down, code_left, code_right}
 use Rattle.rules.specs.Forms.{record_fields, record_size, kind_pressed, kind_released, kind_axis, kind_connected}
 use Rattle.rules.specs.Dispatch.{amount}
@@ -34,8 +32,8 @@ pub record Reading : Type 0 where
 
 -- "Reads are by code": what the two queries answer
 pub record Reads (h : Hub) (p c : ℕ) (x : Reading) : Type 0 where
-  pub pressed : pressed_by_code h p c ≡ truth_answer.Is x.pressed
-  pub value : value_by_code h p c ≡ value_answer.Value x.value
+  pub pressed : pressed_by_code h p c ≡ Ok x.pressed
+  pub value : value_by_code h p c ≡ Ok (Some x.value)
 
 -- "false and 0.0 if none"
 abbrev pub nothing : Reading

@@ -3,7 +3,7 @@
 -- pad's hats, a rename and Connected a pad's mark that it is renamed, and no other call any of these. That no sheet with partial hats comes by the plain call is
 -- the refusal 29.
 use Prim.Native.Nat.{ℕ, zero, suc, ◌+◌, ◌<◌}
-use Rattle.std.specs.Prelude.{Bool, cond, ◌&&◌, List, [], ◌∷◌, ◌≡◌, eqb, ltb, Float, length, set}
+use Rattle.std.specs.Prelude.{Bool, cond, ◌&&◌, List, [], ◌∷◌, ◌≡◌, eqb, ltb, Float, length, set, None, Ok, Option, Some}
 use Rattle.std.proofs.Math.Bool.{true, false}
 use Rattle.std.proofs.Math.Path.{refl, ap}
 use Rattle.std.proofs.Common.{sym, ◌∙◌}
@@ -13,19 +13,16 @@ use native.Mathlib.Omega.{arith}
 use borrow.Author.Tests.{eqb-true, eqb-false, ltb-true, lt-ltb}
 use Rattle.rules.specs.declared.Hub.{Hub}
 use Rattle.rules.specs.declared.EventForm.{EventForm}
-use Rattle.rules.specs.declared.EventRead.{EventRead}
-use Rattle.rules.specs.declared.EventRead.TheVariants as event_read
 use Rattle.rules.specs.declared.NextRecord.{NextRecord}
-use Rattle.rules.specs.declared.TruthAnswer.TheVariants.{Is}
 use Rattle.rules.specs.Names.{pad_limit}
 use Rattle.rules.specs.Forms.{read_event, kind_connected}
 use Rattle.rules.specs.Sheets.{hats_of, partial_of}
-use Rattle.rules.specs.Refusals.{thresholds_refusal, is_registered, form_refusal, insert_refusal}
+use Rattle.rules.specs.Refusals.{thresholds_refusal, is_registered, form_refusal, insert_refusal, answer_by}
 use Rattle.rules.specs.Hub.{hats_now}
 use Rattle.rules.specs.Step.{renamed_after, marked_of, pushed_of, filtered_hub, updated_at, updated_of, step_hub}
 use Rattle.rules.specs.Pump.{pump_of}
 use Rattle.rules.specs.Calls.{fresh_hub, idle_hub, new_by, new_of, registered_at, register_refusal, register_by, register_as, renamed_at, rename_refusal, rename_by, rename_of, form_place, update_form_by, update_by, update_of, inserted_at, insert_form_by, insert_by, insert_of, counted_at, inc_of, reset_of}
-use Rattle.rules.specs.Queries.{pad_refusal, truth_by, old_of}
+use Rattle.rules.specs.Queries.{pad_refusal, old_of}
 use Rattle.theory_calls.specs.Reach.{Reached, new, register, rename, step, update, insert, inc, reset, pump-reached}
 use Rattle.theory_registered.specs.Columns.{accepted, either-taken}
 use Rattle.theory_registered.specs.Pads.{Desk}
@@ -177,18 +174,18 @@ module _ (h : Hub) (p : ℕ) {came old : Bool} (w : Told h p came old) where
   form-told zero f = same-told h _ p refl refl refl refl w
   form-told (suc number) f = w
 
-  update-told : (r : EventRead) → Told (update_by r h).hub p came old
-  update-told (event_read.Form f) = form-told (form_refusal f h.pads (form_place h f)) f
-  update-told event_read.Malformed = w
+  update-told : (r : Option EventForm) → Told (update_by r h).hub p came old
+  update-told (Some f) = form-told (form_refusal f h.pads (form_place h f)) f
+  update-told None = w
 
   insert-form-told : (number : ℕ) (f : EventForm) → Told (insert_form_by number h f).hub p came old
   unfolding inserted_at
   insert-form-told zero f = same-told h _ p refl refl refl refl w
   insert-form-told (suc number) f = w
 
-  insert-told : (r : EventRead) → Told (insert_by r h).hub p came old
-  insert-told (event_read.Form f) = insert-form-told (insert_refusal f h.pads (form_place h f) h.waiting) f
-  insert-told event_read.Malformed = w
+  insert-told : (r : Option EventForm) → Told (insert_by r h).hub p came old
+  insert-told (Some f) = insert-form-told (insert_refusal f h.pads (form_place h f) h.waiting) f
+  insert-told None = w
 
   counted-told : (n : ℕ) → Told (counted_at h n) p came old
   unfolding counted_at
@@ -218,28 +215,28 @@ pub sheet-mark : {h : Hub} (w : Reached h) (p : ℕ) → p < h.pads → partial_
 sheet-mark w p short = (told p w).sheet short
 
 -- so `is_old` answers the account, or 6
-pub old-answers : {h : Hub} (w : Reached h) (p : ℕ) → old_of h p ≡ truth_by (pad_refusal h p) (old_in p w)
+pub old-answers : {h : Hub} (w : Reached h) (p : ℕ) → old_of h p ≡ answer_by (pad_refusal h p) (old_in p w)
 unfolding old_of is_registered
 old-answers {h} w p = by (ltb p h.pads) refl
   where
     by : (registered : Bool) → ltb p h.pads ≡ registered
-        → truth_by (cond (registered && ltb p pad_limit) 0 6) (partial_of (hats_now h p)) ≡ truth_by (cond (registered && ltb p pad_limit) 0 6) (old_in p w)
-    by true e = ap (truth_by (cond (ltb p pad_limit) 0 6)) (mark w p (ltb-true p h.pads e))
+        → answer_by (cond (registered && ltb p pad_limit) 0 6) (partial_of (hats_now h p)) ≡ answer_by (cond (registered && ltb p pad_limit) 0 6) (old_in p w)
+    by true e = ap (answer_by (cond (ltb p pad_limit) 0 6)) (mark w p (ltb-true p h.pads e))
     by false e = refl
 
 -- of a registered pad it is not refused
-pub registered-answers : {h : Hub} (w : Reached h) (p : ℕ) → p < h.pads → old_of h p ≡ Is (old_in p w)
+pub registered-answers : {h : Hub} (w : Reached h) (p : ℕ) → p < h.pads → old_of h p ≡ Ok (old_in p w)
 unfolding is_registered
 registered-answers {h} w p short =
     let few = (reached-desk w).few in
     old-answers w p ∙ rw (lt-ltb p h.pads short, lt-ltb p pad_limit (omega arith))
 
 -- "a pad of the plain call is never old, whatever follows"
-pub plain-never-old : {h : Hub} (w : Reached h) (p : ℕ) → archived_in p w ≡ false → p < h.pads → old_of h p ≡ Is false
-plain-never-old w p plain short = registered-answers w p short ∙ ap Is (plain-not-old p w plain)
+pub plain-never-old : {h : Hub} (w : Reached h) (p : ℕ) → archived_in p w ≡ false → p < h.pads → old_of h p ≡ Ok false
+plain-never-old w p plain short = registered-answers w p short ∙ ap Ok (plain-not-old p w plain)
 
 -- wherever a pump stops, with the steps that it made
 pub pump-answers : {h : Hub} (w : Reached h) (s : List ℕ) (place : ℕ) (out : List ℕ) (allowance : ℕ) (p : ℕ)
     → let after = (pump_of h s place out allowance).pumped.hub in
-    old_of after p ≡ truth_by (pad_refusal after p) (old_in p (pump-reached h s place out allowance w))
+    old_of after p ≡ answer_by (pad_refusal after p) (old_in p (pump-reached h s place out allowance w))
 pump-answers {h} w s place out allowance p = old-answers (pump-reached h s place out allowance w) p

@@ -1,15 +1,15 @@
 -- W-212's refusal, "29 partial hats, after 4 and before 5": exactly when `register` answers it, and that the two calls are one for whole hats. By what the five tests
 -- come to (`tests-29` of `specs/Refused.antt`).
 use Prim.Native.Nat.{ℕ, ◌+◌}
-use Rattle.std.specs.Prelude.{Bool, false, not, ◌&&◌, ◌||◌, List, ◌⊎◌, ◌≡◌, eqb, ltb}
+use Rattle.std.specs.Prelude.{Bool, false, not, ◌&&◌, ◌||◌, List, ◌⊎◌, ◌≡◌, eqb, ltb, Err, Ok}
 use Rattle.std.proofs.Math.Bool.{true, cond}
 use Rattle.std.proofs.Common.{inl, inr, ⊎_elim, ◌∙◌, arith, eqb-true}
 use Rattle.std.proofs.Math.Path.{refl, sym, ap}
 use Rattle.rules.specs.declared.Hub.{Hub}
-use Rattle.rules.specs.declared.RegisterAnswer.TheVariants.{Pad, Refused}
 use Rattle.rules.specs.Names.{pad_limit}
 use Rattle.rules.specs.Sheets.{sheet_opening, element_size, name_offset, last_hats, hats_of, count_of, sheet_fits, elements_fit, occurs_twice, partial_of, sheet_refusal}
 use Rattle.rules.specs.Calls.{register_refusal, register_by, register_as}
+use Rattle.rules.specs.Refusals.{numbered}
 use Rattle.theory_old.specs.Refused.{taken_but_names, tests-29, archived-not-29, number_is, answers}
 
 -- the plain call's refusal: 29 where the hats are partial and the archived call's is none or 5, else the archived call's
@@ -31,21 +31,21 @@ apart-29 false none names number en em e never = absurd (never e)
 
 module _ (h : Hub) (s : List ℕ) where
   -- where `register` answers 29 the hats are partial, and the archived call answers a pad or 5
-  pub partial-refused : (register_as false h s).answer ≡ Refused 29
-      → (partial_of (hats_of s) ≡ true) × (((register_as true h s).answer ≡ Pad h.pads) ⊎ ((register_as true h s).answer ≡ Refused 5))
+  pub partial-refused : (register_as false h s).answer ≡ Err (numbered 29)
+      → (partial_of (hats_of s) ≡ true) × (((register_as true h s).answer ≡ Ok h.pads) ⊎ ((register_as true h s).answer ≡ Err (numbered 5)))
   partial-refused e =
       let number = register_refusal true h.pads s in
-      let told = sym (register-refusal h.pads s) ∙ number_is false h s (Refused 29) e in
+      let told = sym (register-refusal h.pads s) ∙ number_is false h s (Err (numbered 29)) e in
       let parts = apart-29 (partial_of (hats_of s)) (eqb number 0) (eqb number 5) number refl refl told (archived-not-29 h.pads s) in
       (parts.0, ⊎_elim (λ none. inl (answers true h s 0 none)) (λ names. inr (answers true h s 5 names)) parts.1)
 
   -- and where they are and it does, `register` answers 29
-  pub partial-refuses : partial_of (hats_of s) ≡ true → ((register_as true h s).answer ≡ Pad h.pads) ⊎ ((register_as true h s).answer ≡ Refused 5)
-      → (register_as false h s).answer ≡ Refused 29
+  pub partial-refuses : partial_of (hats_of s) ≡ true → ((register_as true h s).answer ≡ Ok h.pads) ⊎ ((register_as true h s).answer ≡ Err (numbered 5))
+      → (register_as false h s).answer ≡ Err (numbered 29)
   partial-refuses partial taken =
       answers false h s 29
       (register-refusal h.pads s
-      ∙ ⊎_elim (λ pad. by 0 (number_is true h s (Pad h.pads) pad) refl) (λ names. by 5 (number_is true h s (Refused 5) names) refl) taken)
+      ∙ ⊎_elim (λ pad. by 0 (number_is true h s (Ok h.pads) pad) refl) (λ names. by 5 (number_is true h s (Err (numbered 5)) names) refl) taken)
     where
       by : (n : ℕ) → register_refusal true h.pads s ≡ n → taken_but_names n ≡ true
           → cond (partial_of (hats_of s) && taken_but_names (register_refusal true h.pads s)) 29 (register_refusal true h.pads s) ≡ 29

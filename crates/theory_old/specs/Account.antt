@@ -1,10 +1,9 @@
 -- Whether a pad is old, told by what the public calls were given and answered; the hub's columns of hats are not looked at. Definitions, and that they say
 -- W-212's sentence.
-use Rattle.std.specs.Prelude.{ℕ, Bool, true, false, cond, not, ◌&&◌, List, ◌≡◌, refl, eqb}
+use Rattle.std.specs.Prelude.{ℕ, Bool, true, false, cond, not, ◌&&◌, List, ◌≡◌, refl, eqb, Err, Ok, Result}
 use Rattle.std.proofs.Common.{true≢false}
 use Rattle.rules.specs.declared.Hub.{Hub}
-use Rattle.rules.specs.declared.Answer.{Answer}
-use Rattle.rules.specs.declared.Answer.TheVariants as answer
+use Rattle.rules.specs.declared.Refusal.{Refusal}
 use Rattle.rules.specs.Sheets.{hats_of, partial_of}
 use Rattle.rules.specs.Calls.{register_as, rename_of}
 use Rattle.theory_calls.specs.Reach.{Reached, new, register, rename, step, update, insert, inc, reset}
@@ -17,9 +16,9 @@ unfoldable pub archived_partial : Bool → List ℕ → Bool
 archived_partial archived sheet = archived && partial_of (hats_of sheet)
 
 -- a rename of it is answered
-abbrev pub done : Answer → Bool
-done answer.Done = true
-done (answer.Refused number) = false
+abbrev pub done : Result (Unit {0}) Refusal → Bool
+done (Ok tt) = true
+done (Err e) = false
 
 abbrev pub renames : Hub → ℕ → List ℕ → ℕ → Bool
 renames h pad list p = done (rename_of h pad list).answer && eqb pad p

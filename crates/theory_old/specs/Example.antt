@@ -1,14 +1,12 @@
 -- W-212's sentences on one pad, computed by the checker: an archived sheet with three directions mapped, a rename of its pad, and Connected; and statements
 -- that are too strong, refuted.
-use Rattle.std.specs.Prelude.{ℕ, ◌<◌, true, false, List, [], ◌∷◌, ◌≡◌, refl, pos, get_or}
+use Rattle.std.specs.Prelude.{ℕ, ◌<◌, true, false, List, [], ◌∷◌, ◌≡◌, refl, pos, get_or, Err, Ok, Result}
 use Rattle.std.proofs.Common.{true≢false, sym, ◌∙◌, ap, arith}
 use Rattle.std.specs.Float.Ieee as Ieee
 use Rattle.rules.specs.declared.Hub.{Hub}
 use Rattle.rules.specs.declared.NextRecord.{NextRecord}
 use Rattle.rules.specs.declared.SheetElement.{SheetElement}
-use Rattle.rules.specs.declared.RegisterAnswer.{RegisterAnswer}
-use Rattle.rules.specs.declared.RegisterAnswer.TheVariants as register_answer
-use Rattle.rules.specs.declared.TruthAnswer.TheVariants.{Is}
+use Rattle.rules.specs.declared.Refusal.{Refusal}
 use Rattle.rules.specs.Forms.{record_bytes, kind_connected}
 use Rattle.rules.specs.Sheets.{partial_of, sheet_bytes, element_button}
 use Rattle.rules.specs.Hub.{hats_now}
@@ -16,6 +14,7 @@ use Rattle.rules.specs.Step.{next_record_of, step_hub}
 use Rattle.rules.specs.Calls.{register_as, register_of, register_archived_of, rename_of}
 use Rattle.rules.specs.Queries.{old_of}
 use Rattle.rules.specs.Answers.{register_says}
+use Rattle.rules.specs.Refusals.{numbered}
 use Rattle.theory_calls.specs.Reach.{Reached, new, register, rename, step}
 use Rattle.theory_calls.specs.Machines.{bare}
 use Rattle.theory_old.specs.Account.{archived_in, old_in}
@@ -29,11 +28,11 @@ unfoldable partial_sheet : List ℕ
 unfolding sheet_bytes
 partial_sheet = sheet_bytes 7 (south 0x00010130 ∷ [])
 
-plain-refuses : (register_of bare partial_sheet).answer ≡ register_answer.Refused 29
+plain-refuses : (register_of bare partial_sheet).answer ≡ Err (numbered 29)
 unfolding bare partial_sheet register_as Ieee.of_bits Ieee.lt Ieee.le
 plain-refuses = refl
 
-archived-takes : (register_archived_of bare partial_sheet).answer ≡ register_answer.Pad 0
+archived-takes : (register_archived_of bare partial_sheet).answer ≡ Ok 0
 unfolding bare partial_sheet register_as Ieee.of_bits Ieee.lt Ieee.le
 archived-takes = refl
 
@@ -55,7 +54,7 @@ unfoldable joined : Hub
 unfolding renamed connected step_hub
 joined = step_hub renamed connected
 
-marked : (old_of kept 0 ≡ Is true) × (old_of renamed 0 ≡ Is false) × (old_of joined 0 ≡ Is true)
+marked : (old_of kept 0 ≡ Ok true) × (old_of renamed 0 ≡ Ok false) × (old_of joined 0 ≡ Ok true)
 unfolding joined old_of
 marked = (refl, refl, refl)
 
@@ -87,7 +86,7 @@ whole-reached : Reached whole
 unfolding whole bare
 whole-reached = register true (sheet_bytes 15 []) (new (Ieee.of_bits Ieee.binary32 0x3f400000) (Ieee.of_bits Ieee.binary32 0x3f000000) false true true)
 
-whole-not-old : (archived_in 0 whole-reached ≡ true) × (old_in 0 whole-reached ≡ false) × (old_of whole 0 ≡ Is false)
+whole-not-old : (archived_in 0 whole-reached ≡ true) × (old_in 0 whole-reached ≡ false) × (old_of whole 0 ≡ Ok false)
 unfolding whole-reached whole archived_in old_in old_of
 whole-not-old = (refl, refl, refl)
 
@@ -108,16 +107,16 @@ unfoldable twice : List ℕ
 unfolding sheet_bytes
 twice = sheet_bytes 7 (south 0x00010130 ∷ south 0x00010131 ∷ [])
 
-twice-answers : ((register_as false bare twice).answer ≡ register_answer.Refused 29) × ((register_as true bare twice).answer ≡ register_answer.Refused 5)
+twice-answers : ((register_as false bare twice).answer ≡ Err (numbered 29)) × ((register_as true bare twice).answer ≡ Err (numbered 5))
 unfolding bare twice register_as Ieee.of_bits Ieee.lt Ieee.le
 twice-answers = (refl, refl)
 
 -- an answer's refusal, 0 for a pad
-abbrev refusal : RegisterAnswer → ℕ
+abbrev refusal : Result ℕ Refusal → ℕ
 refusal a = (register_says a).refusal
 
 not-only-taken :
-    ((h : Hub) (s : List ℕ) → (register_as false h s).answer ≡ register_answer.Refused 29 → (register_as true h s).answer ≡ register_answer.Pad h.pads) → ⊥
+    ((h : Hub) (s : List ℕ) → (register_as false h s).answer ≡ Err (numbered 29) → (register_as true h s).answer ≡ Ok h.pads) → ⊥
 not-only-taken all =
     let none : refusal (register_as true bare twice).answer ≡ 0 = ap refusal (all bare twice twice-answers.0) in
     let names : refusal (register_as true bare twice).answer ≡ 5 = ap refusal twice-answers.1 in
@@ -126,8 +125,8 @@ not-only-taken all =
 -- ---- too strong: that a refusal of the archived call is the plain one's too. The same sheet: 5 and 29
 
 not-the-same-number :
-    ((h : Hub) (s : List ℕ) (number : ℕ) → (register_as true h s).answer ≡ register_answer.Refused number
-    → (register_as false h s).answer ≡ register_answer.Refused number) → ⊥
+    ((h : Hub) (s : List ℕ) (number : ℕ) → (register_as true h s).answer ≡ Err (numbered number)
+    → (register_as false h s).answer ≡ Err (numbered number)) → ⊥
 not-the-same-number all =
     let names : refusal (register_as false bare twice).answer ≡ 5 = ap refusal (all bare twice 5 twice-answers.1) in
     let hats : refusal (register_as false bare twice).answer ≡ 29 = ap refusal twice-answers.0 in

@@ -1,16 +1,16 @@
 -- W-212's refusal, "29 partial hats, after 4 and before 5": that the archived call is 01's and never answers it, and that a refused registration leaves the hub. By
 -- the refusal's five tests, each true or false. (Exactly when `register` answers it: `proofs/Refused.antt`.)
 use Prim.Native.Nat.{ℕ, zero, suc, ◌+◌}
-use Rattle.std.specs.Prelude.{Bool, false, not, ◌&&◌, ◌||◌, List, ◌≡◌, eqb, ltb}
+use Rattle.std.specs.Prelude.{Bool, false, not, ◌&&◌, ◌||◌, List, ◌≡◌, eqb, ltb, Err, Result}
 use Rattle.std.proofs.Math.Bool.{true, cond}
 use Rattle.std.proofs.Common.{true≢false, ◌∙◌, arith}
 use Rattle.std.proofs.Math.Path.{refl, sym, ap}
+use Rattle.std.specs.Result.{is_ok}
 use Rattle.rules.specs.declared.Hub.{Hub}
-use Rattle.rules.specs.declared.RegisterAnswer.{RegisterAnswer}
-use Rattle.rules.specs.declared.RegisterAnswer.TheVariants.{Pad, Refused}
+use Rattle.rules.specs.declared.Refusal.{Refusal}
 use Rattle.rules.specs.Names.{pad_limit}
 use Rattle.rules.specs.Sheets.{sheet_opening, element_size, name_offset, last_hats, hats_of, count_of, sheet_fits, elements_fit, occurs_twice, partial_of, sheet_refusal}
-use Rattle.rules.specs.Refusals.{first, unless_fits}
+use Rattle.rules.specs.Refusals.{first, unless_fits, numbered}
 use Rattle.rules.specs.Calls.{register_refusal, register_by, register_as}
 use Rattle.rules.specs.Answers.{register_says}
 
@@ -64,29 +64,25 @@ answer-number : (number : ℕ) (h : Hub) (s : List ℕ) → (register_says (regi
 answer-number zero h s = refl
 answer-number (suc number) h s = refl
 
-abbrev is_pad : RegisterAnswer → Bool
-is_pad (Pad p) = true
-is_pad (Refused number) = false
-
 module _ (archived : Bool) (h : Hub) (s : List ℕ) where
-  pub number_is : (a : RegisterAnswer) → (register_as archived h s).answer ≡ a → register_refusal archived h.pads s ≡ (register_says a).refusal
+  pub number_is : (a : Result ℕ Refusal) → (register_as archived h s).answer ≡ a → register_refusal archived h.pads s ≡ (register_says a).refusal
   unfolding register_as
-  number_is a e = sym (answer-number (register_refusal archived h.pads s) h s) ∙ ap (λ (b : RegisterAnswer). (register_says b).refusal) e
+  number_is a e = sym (answer-number (register_refusal archived h.pads s) h s) ∙ ap (λ (b : Result ℕ Refusal). (register_says b).refusal) e
 
   pub answers : (number : ℕ) → register_refusal archived h.pads s ≡ number → (register_as archived h s).answer ≡ (register_by number h s).answer
   unfolding register_as
   answers number e = ap (λ (n : ℕ). (register_by n h s).answer) e
 
   -- any refusal leaves the hub as it was
-  pub refused-leaves : (number : ℕ) → (register_as archived h s).answer ≡ Refused number → (register_as archived h s).hub ≡ h
+  pub refused-leaves : (number : ℕ) → (register_as archived h s).answer ≡ Err (numbered number) → (register_as archived h s).hub ≡ h
   unfolding register_as
   refused-leaves number e = by (register_refusal archived h.pads s) e
     where
-      by : (n : ℕ) → (register_by n h s).answer ≡ Refused number → (register_by n h s).hub ≡ h
-      by zero e = absurd (true≢false (ap is_pad e))
+      by : (n : ℕ) → (register_by n h s).answer ≡ Err (numbered number) → (register_by n h s).hub ≡ h
+      by zero e = absurd (true≢false (ap is_ok e))
       by (suc n) e = refl
 
 module _ (h : Hub) (s : List ℕ) where
   -- the archived call never answers 29
-  pub archived-takes-partial : (register_as true h s).answer ≡ Refused 29 → ⊥
-  archived-takes-partial e = archived-not-29 h.pads s (number_is true h s (Refused 29) e)
+  pub archived-takes-partial : (register_as true h s).answer ≡ Err (numbered 29) → ⊥
+  archived-takes-partial e = archived-not-29 h.pads s (number_is true h s (Err (numbered 29)) e)

@@ -1,12 +1,10 @@
 -- Every hub that the public calls reach: at most four pads stand, each keeps the sheet that it was registered with, its codes do not fall, and the lookup of
 -- a code answers what a plain scan of its places would. By induction on the calls; only registration touches the sheets' columns.
-use Rattle.std.specs.Prelude.{ℕ, zero, suc, ◌+◌, ◌*◌, ◌<◌, ◌≤◌, Bool, List, ◌≡◌, Float}
+use Rattle.std.specs.Prelude.{ℕ, zero, suc, ◌+◌, ◌*◌, ◌<◌, ◌≤◌, Bool, List, ◌≡◌, Float, None, Option, Some}
 use Rattle.std.proofs.Math.Path.{refl}
 use native.Mathlib.Omega.{arith}
 use Rattle.rules.specs.declared.Hub.{Hub}
 use Rattle.rules.specs.declared.EventForm.{EventForm}
-use Rattle.rules.specs.declared.EventRead.{EventRead}
-use Rattle.rules.specs.declared.EventRead.TheVariants as event_read
 use Rattle.rules.specs.Names.{pad_limit, places_per_pad, nowhere, code_up}
 use Rattle.rules.specs.Forms.{read_event}
 use Rattle.rules.specs.Sheets.{count_of, element_of}
@@ -51,9 +49,9 @@ unfolding inserted_at
 insert-form-desk zero h f d = alike h _ (alike-by h _ refl refl refl refl refl refl refl refl) d
 insert-form-desk (suc number) h f d = d
 
-insert-desk : (r : EventRead) (h : Hub) → Desk h → Desk (insert_by r h).hub
-insert-desk (event_read.Form f) h d = insert-form-desk (insert_refusal f h.pads (form_place h f) h.waiting) h f d
-insert-desk event_read.Malformed h d = d
+insert-desk : (r : Option EventForm) (h : Hub) → Desk h → Desk (insert_by r h).hub
+insert-desk (Some f) h d = insert-form-desk (insert_refusal f h.pads (form_place h f) h.waiting) h f d
+insert-desk None h d = d
 
 -- ---- every hub that is reached
 

@@ -1,6 +1,6 @@
 -- What is kept of the pads: at most four stand, each with the sheet that it was registered with. Calls that leave the sheets' columns alone leave it so, and so does
 -- a registration that is accepted. (Of every hub that the public calls reach: `proofs/Pads.antt`.)
-use Rattle.std.specs.Prelude.{ℕ, zero, suc, ◌+◌, ◌<◌, ◌≤◌, Bool, true, List, map, ◌≡◌, ltb, get_or}
+use Rattle.std.specs.Prelude.{ℕ, zero, suc, ◌+◌, ◌<◌, ◌≤◌, Bool, true, List, map, ◌≡◌, ltb, get_or, None, Option, Some}
 use Rattle.std.proofs.Math.Bool.{false}
 use Rattle.std.proofs.Math.Path.{refl, sym}
 use Rattle.std.proofs.Common.{◌∙◌, subst, ltb-true, ltb-false}
@@ -8,8 +8,6 @@ use Rattle.std.proofs.Math.Seq.{get_or-set_same, get_or-set_other}
 use native.Mathlib.Omega.{arith}
 use Rattle.rules.specs.declared.Hub.{Hub}
 use Rattle.rules.specs.declared.EventForm.{EventForm}
-use Rattle.rules.specs.declared.EventRead.{EventRead}
-use Rattle.rules.specs.declared.EventRead.TheVariants as event_read
 use Rattle.rules.specs.declared.NextRecord.{NextRecord}
 use Rattle.rules.specs.Names.{pad_limit}
 use Rattle.rules.specs.Sheets.{sheet_refusal, hats_of, count_of}
@@ -97,9 +95,9 @@ unfolding updated_of updated_at
 form-alike zero h f = alike-by h _ refl refl refl refl refl refl refl refl
 form-alike (suc number) h f = alike-by h _ refl refl refl refl refl refl refl refl
 
-pub update_alike : (r : EventRead) (h : Hub) → Alike h (update_by r h).hub
-update_alike (event_read.Form f) h = form-alike (form_refusal f h.pads (form_place h f)) h f
-update_alike event_read.Malformed h = alike-by h _ refl refl refl refl refl refl refl refl
+pub update_alike : (r : Option EventForm) (h : Hub) → Alike h (update_by r h).hub
+update_alike (Some f) h = form-alike (form_refusal f h.pads (form_place h f)) h f
+update_alike None h = alike-by h _ refl refl refl refl refl refl refl refl
 
 pub counted-alike : (h : Hub) (n : ℕ) → Alike h (counted_at h n)
 unfolding counted_at

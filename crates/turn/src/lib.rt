@@ -12,7 +12,7 @@ use rules::{EVENT_SIZE, KIND_CONNECTED, KIND_DISCONNECTED, PumpAnswer};
 
 const QUEUE_ROOM: u8 = 64;
 
-// reasons to stop
+// reasons to stop, by number: the definition stop_of of rules/specs/Pump and the theorems on it speak of the number
 const GO_ON: u8 = 0;
 
 const DRAINED: u8 = 1;
@@ -28,7 +28,7 @@ fn nothing(waiting: u8, rest: usize) -> bool
     requires { rest ≤ buffer_limit }
     ensures { result ≡ (eqb waiting 0 && eqb rest 0) }
 {
-    choices::wide(waiting) + rest == 0
+    usize::from(waiting) + rest == 0
 }
 
 // Drained, Full, Paused, in this order, or to go on.
@@ -37,32 +37,27 @@ pub fn stop(waiting: u8, rest: usize, room: usize, left: usize) -> u8
     requires { rest ≤ buffer_limit }
     ensures { result ≡ stop_of waiting rest room left }
 {
-    choices::chosen(
-        nothing(waiting, rest),
-        DRAINED,
-        choices::chosen(
-            room < EVENT_SIZE,
-            FULL,
-            choices::chosen(left == 0, PAUSED, GO_ON),
-        ),
-    )
+    if nothing(waiting, rest) {
+        DRAINED
+    } else if room < EVENT_SIZE {
+        FULL
+    } else if left == 0 {
+        PAUSED
+    } else {
+        GO_ON
+    }
 }
 
 // The answer for a stop's number.
 pub fn stop_answer(why: u8, place: usize, events: usize, steps: usize) -> PumpAnswer
     ensures { result ≡ stop_answer why place events steps }
 {
-    if why == DRAINED {
-        return PumpAnswer::Drained(place, events, steps);
-    }
-    if why == FULL {
-        PumpAnswer::Full(place, events, steps)
-    } else {
-        PumpAnswer::Paused(place, events, steps)
+    match why {
+        DRAINED => PumpAnswer::Drained(place, events, steps),
+        FULL => PumpAnswer::Full(place, events, steps),
+        _ => PumpAnswer::Paused(place, events, steps),
     }
 }
-
-// ---- what is taken
 
 // ---- the marks of a taken record
 
@@ -73,9 +68,7 @@ pub fn connect(connected: &mut [bool; 4], p: u8, kind: u8)
 {
     if kind == KIND_CONNECTED {
         pad::mark_pad(connected, p, true);
-        return;
-    }
-    if kind == KIND_DISCONNECTED {
+    } else if kind == KIND_DISCONNECTED {
         pad::mark_pad(connected, p, false);
     }
 }
@@ -104,7 +97,7 @@ pub fn marks_cleared(kind: u8, n: usize) -> usize
 pub fn front(head: u8) -> usize
     ensures { RingIs (head % 64) result }
 {
-    (head % QUEUE_ROOM) as usize
+    usize::from(head % QUEUE_ROOM)
 }
 
 // The ring's front once a step took it; the same where nothing waited.
@@ -123,14 +116,14 @@ pub fn head_after(head: u8, waiting: u8) -> u8
 pub fn fewer(waiting: u8) -> u8
     ensures { result ≡ waiting - 1 }
 {
-    if 0 < waiting { waiting - 1 } else { 0 }
+    waiting.saturating_sub(1)
 }
 
 // Where the next event goes.
 pub fn free(head: u8, waiting: u8) -> usize
     ensures { RingIs (slot_at head waiting) result }
 {
-    (choices::wide(head) + choices::wide(waiting)) % 64
+    (usize::from(head) + usize::from(waiting)) % 64
 }
 
 // How many wait with one more; the ring holds 64.
@@ -144,7 +137,3 @@ pub fn longer(waiting: u8) -> u8
         QUEUE_ROOM
     }
 }
-
-// ---- what is pushed
-
-// ---- the records after an event

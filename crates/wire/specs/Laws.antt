@@ -1,6 +1,6 @@
 -- What was written reads back: a field of any width, and an event inside the limits. The field law is one, over the width: bytes are split off at
 -- the front, where the number is written, and at the back, where it is read.
-use Rattle.std.specs.Prelude.{◌≡◌, true, ℕ, zero, suc, ◌+◌, ◌*◌, ◌/◌, ◌%◌, ◌^◌, ◌≤◌, ◌<◌, length, drop, get_or, T, Float}
+use Rattle.std.specs.Prelude.{◌≡◌, true, ℕ, zero, suc, ◌+◌, ◌*◌, ◌/◌, ◌%◌, ◌^◌, ◌≤◌, ◌<◌, length, drop, get_or, T, Float, Some}
 use Rattle.std.proofs.Math.Path.{refl}
 use Rattle.std.proofs.Common.{sym, ◌∙◌, ap, zero-add, mul_assoc, mul_comm, add-mul, pow-suc, mod-lt, mod-eq_of_lt, div-add-mod', mul-le-mul_right, arith, get_or-drop, lit<}
 use mathlib.Core.List.{List, [], ◌∷◌, ◌++◌}
@@ -12,7 +12,6 @@ use Rattle.rules.specs.declared.Event.{Event}
 use Rattle.rules.specs.declared.EventType.{EventType}
 use Rattle.rules.specs.declared.EventType.TheVariants.{Pressed, Released, Repeated, Changed, Axis, Connected, Disconnected, Dropped}
 use Rattle.rules.specs.declared.EventForm.{EventForm}
-use Rattle.rules.specs.declared.EventRead.TheVariants as event_read
 use Rattle.rules.specs.Forms.{field_of, bytes_of, opens, name_fits, has_value, event_kind_fits, read_event, form_bytes}
 use Rattle.rules.specs.Events.{kind_type, name_type, code_type, value_type, kind_of, name_of, code_of, value_of, type_of, form_of, form_event, event_bytes}
 use Rattle.wire.specs.Whole.{event-good}
@@ -99,7 +98,7 @@ module _ (f : EventForm) where
 
 -- a form that was written is read
 pub form-back : (f : EventForm) → InWidth f → event_kind_fits f.kind f.name f.code f.bits ≡ true
-    → read_event (form_bytes f) ≡ event_read.Form f
+    → read_event (form_bytes f) ≡ Some f
 unfolding form_bytes bytes_of
 form-back f w h =
     sym
@@ -139,7 +138,7 @@ pub record InLimits (e : Event) : Type 0 where
   pub value : T (fits binary32 (value_of e))
 
 -- "reading an event that was written gives it back": its form is read, and the form's event is the event
-pub event-read-back : (e : Event) → InLimits e → read_event (event_bytes e) ≡ event_read.Form (form_of e)
+pub event-read-back : (e : Event) → InLimits e → read_event (event_bytes e) ≡ Some (form_of e)
 unfolding event_bytes form_of kind_of name_of code_of value_of
 event-read-back e l =
     form-back (form_of e) (record { code = l.code; bits = to_bits-lt binary32 (value_of e) l.value; time = l.time }) (kind_fits e.event l.named)

@@ -5,28 +5,21 @@ ghost use Rattle.std.specs.Prelude.{◌≡◌, ◌++◌, ◌+◌, ◌≤◌, ◌
 ghost use Rattle.rules.specs.Forms.{field_of, signed_of, opens, record_kind_fits, read_record, name_fits, event_kind_fits, read_event, form_bytes};
 ghost use Rattle.rules.specs.Events.{event_bytes};
 ghost use Rattle.rules.specs.Step.{next_record_of};
-ghost use Rattle.wire.specs.Bytes.{swapped_of, laid_out};
 
 use events::{EVENT_CHANGED, EVENT_DROPPED, EVENT_PRESSED};
 use rules::{
-    EVENT_AXIS, EVENT_SIZE, Event, EventForm, EventRead, KIND_AXIS, KIND_CONNECTED,
-    KIND_DISCONNECTED, NO_NAME, NextRecord, RECORD_SIZE, RawRecord, RecordRead,
+    EVENT_AXIS, EVENT_SIZE, Event, EventForm, KIND_AXIS, KIND_CONNECTED, KIND_DISCONNECTED,
+    KIND_PRESSED, NO_NAME, NextRecord, RECORD_SIZE, RawRecord,
 };
 
 // ---- sizes, kinds and limits
 
 const VERSION: u8 = 1;
 
-// of raw records: 1 pressed, 2 released, 3 axis, 4 connected, 5 disconnected
-const KIND_PRESSED: u8 = 1;
+// the bytes of an event that follow its count
+const EVENT_COUNT: u8 = 20;
 
 // ---- fields
-
-fn wide(x: u8) -> u64
-    ensures { (result ≡ x) × (result < 256) }
-{
-    x as u64
-}
 
 // The bytes from a place on as one number, the highest first: one reader for every width up to 8.
 #[tactic(auto, unfolding(rules::specs::Forms::field_of))]
@@ -35,13 +28,13 @@ pub fn field(s: &[u8], at: usize, width: usize) -> u64
     ensures { (result ≡ field_of s.now at width) × (result < 256 ^ width) }
 {
     let mut x: u64 = 0;
-    let mut i: usize = 0;
-    while i < width {
-        x = x * 256 + wide(s[at + i]);
-        i += 1;
+    for &byte in &s[at..at + width] {
+        x = x * 256 + u64::from(byte);
     }
     x
 }
+
+// `field` in three widths, each as its own type: a const parameter would choose the width, and not the type that it answers.
 
 // Two bytes as a number, the highest first.
 pub fn read2(s: &[u8], at: usize) -> u16
@@ -72,11 +65,7 @@ pub fn read8(s: &[u8], at: usize) -> u64
 pub fn signed_of(x: u32) -> i32
     ensures { result ≡ signed_of x }
 {
-    if x < 0x8000_0000 {
-        return x as i32;
-    }
-    let y = 0xffff_ffff - x;
-    -1 - (y as i32)
+    x.cast_signed()
 }
 
 // Four bytes as a signed number.
@@ -93,11 +82,7 @@ pub fn opens_as(s: &[u8], at: usize, size: usize) -> bool
     requires { at + 3 ≤ length s.now }
     ensures { result ≡ opens s.now at size }
 {
-    let count = read2(s, at) as usize;
-    if count + 2 == size {
-        return s[at + 2] == VERSION;
-    }
-    false
+    usize::from(read2(s, at)) + 2 == size && s[at + 2] == VERSION
 }
 
 // ---- raw records
@@ -107,42 +92,29 @@ pub fn opens_as(s: &[u8], at: usize, size: usize) -> bool
 fn record_kind_fits(kind: u8, code: u32, value: u32) -> bool
     ensures { result ≡ record_kind_fits kind code value }
 {
-    if kind < KIND_PRESSED {
-        return false;
-    }
-    if KIND_DISCONNECTED < kind {
-        return false;
-    }
-    if kind == KIND_AXIS {
-        return true;
-    }
-    if value != 0 {
-        return false;
-    }
-    if kind < KIND_CONNECTED {
-        return true;
-    }
-    code == 0
+    matches!(kind, KIND_PRESSED..=KIND_DISCONNECTED)
+        && (kind == KIND_AXIS || value == 0)
+        && (kind < KIND_CONNECTED || code == 0)
 }
 
 // The record at a place, wherever that lies: a place past the end, or with less than a record behind it, is malformed too.
-pub fn read_record(s: &[u8], at: usize) -> RecordRead
+pub fn read_record(s: &[u8], at: usize) -> Option<RawRecord>
     ensures { result ≡ read_record s.now at }
 {
     if s.len() < at {
-        return RecordRead::Malformed;
+        return None;
     }
     if s.len() - at < RECORD_SIZE {
-        return RecordRead::Malformed;
+        return None;
     }
     if !opens_as(s, at, RECORD_SIZE) {
-        return RecordRead::Malformed;
+        return None;
     }
     let kind = s[at + 3];
     let code = read4(s, at + 5);
     let bits = read4(s, at + 9);
     if !record_kind_fits(kind, code, bits) {
-        return RecordRead::Malformed;
+        return None;
     }
     let raw = RawRecord {
         kind,
@@ -151,7 +123,7 @@ pub fn read_record(s: &[u8], at: usize) -> RecordRead
         value: signed_of(bits),
         time: read8(s, at + 13),
     };
-    RecordRead::Record(raw)
+    Some(raw)
 }
 
 // ---- events
@@ -162,15 +134,12 @@ fn name_fits(kind: u8, name: u8, code: u32) -> bool
     ensures { result ≡ name_fits kind name code }
 {
     if kind <= EVENT_CHANGED {
-        return names::is_button(name);
+        names::is_button(name)
+    } else if kind == EVENT_AXIS {
+        names::is_axis(name)
+    } else {
+        name == NO_NAME && code == 0
     }
-    if kind == EVENT_AXIS {
-        return names::is_axis(name);
-    }
-    if name != NO_NAME {
-        return false;
-    }
-    code == 0
 }
 
 // "Value only in 4 and 5, else 0", compared as bits.
@@ -178,40 +147,27 @@ fn name_fits(kind: u8, name: u8, code: u32) -> bool
 fn event_kind_fits(kind: u8, name: u8, code: u32, bits: u32) -> bool
     ensures { result ≡ event_kind_fits kind name code bits }
 {
-    if kind < EVENT_PRESSED {
-        return false;
-    }
-    if EVENT_DROPPED < kind {
-        return false;
-    }
-    if !name_fits(kind, name, code) {
-        return false;
-    }
-    if kind == EVENT_CHANGED {
-        return true;
-    }
-    if kind == EVENT_AXIS {
-        return true;
-    }
-    bits == 0
+    matches!(kind, EVENT_PRESSED..=EVENT_DROPPED)
+        && name_fits(kind, name, code)
+        && (matches!(kind, EVENT_CHANGED | EVENT_AXIS) || bits == 0)
 }
 
 // An event's 22 bytes, or Malformed.
-pub fn read_event(s: &[u8]) -> EventRead
+pub fn read_event(s: &[u8]) -> Option<EventForm>
     ensures { result ≡ read_event s.now }
 {
     if s.len() != EVENT_SIZE {
-        return EventRead::Malformed;
+        return None;
     }
     if !opens_as(s, 0, EVENT_SIZE) {
-        return EventRead::Malformed;
+        return None;
     }
     let kind = s[3];
     let name = s[5];
     let code = read4(s, 6);
     let bits = read4(s, 10);
     if !event_kind_fits(kind, name, code, bits) {
-        return EventRead::Malformed;
+        return None;
     }
     let form = EventForm {
         kind,
@@ -221,82 +177,23 @@ pub fn read_event(s: &[u8]) -> EventRead
         bits,
         time: read8(s, 14),
     };
-    EventRead::Form(form)
+    Some(form)
 }
 
 // ---- an event written
 
-// The eight bytes of a number turned round. The compiler makes one instruction of it, and one store of the bytes of what it gives, the lowest first;
-// bytes that are stored the highest first it leaves single.
-#[tactic(auto, unfolding(crate::specs::Bytes::swapped_of))]
-fn swapped(x: u64) -> u64
-    ensures { result ≡ swapped_of 8 x }
-{
-    let mut y: u64 = 0;
-    let mut left = x;
-    let mut i: usize = 0;
-    while i < 8 {
-        y = y * 256 + left % 256;
-        left = left / 256;
-        i += 1;
-    }
-    y
-}
-
-// An event's 22 bytes, its code, bits and time swapped.
-fn laid_out(kind: u8, pad: u8, name: u8, code: u64, bits: u64, time: u64) -> [u8; 22]
-    ensures { result ≡ laid_out kind pad name code bits time }
-{
-    [
-        0,
-        20,
-        1,
-        kind,
-        pad,
-        name,
-        (code / 0x1_0000_0000 % 256) as u8,
-        (code / 0x100_0000_0000 % 256) as u8,
-        (code / 0x1_0000_0000_0000 % 256) as u8,
-        (code / 0x100_0000_0000_0000 % 256) as u8,
-        (bits / 0x1_0000_0000 % 256) as u8,
-        (bits / 0x100_0000_0000 % 256) as u8,
-        (bits / 0x1_0000_0000_0000 % 256) as u8,
-        (bits / 0x100_0000_0000_0000 % 256) as u8,
-        (time % 256) as u8,
-        (time / 0x100 % 256) as u8,
-        (time / 0x1_0000 % 256) as u8,
-        (time / 0x100_0000 % 256) as u8,
-        (time / 0x1_0000_0000 % 256) as u8,
-        (time / 0x100_0000_0000 % 256) as u8,
-        (time / 0x1_0000_0000_0000 % 256) as u8,
-        (time / 0x100_0000_0000_0000 % 256) as u8,
-    ]
-}
-
-// A form's 22 bytes.
-fn form_bytes(f: EventForm) -> [u8; 22]
-    ensures { result ≡ form_bytes f }
-{
-    let code = swapped(f.code as u64);
-    let bits = swapped(f.bits as u64);
-    let time = swapped(f.time);
-    laid_out(f.kind, f.pad, f.name, code, bits, time)
-}
-
 // One event at the start of the part that is lent; the bytes after it stay. The pump lends "the out buffer's part starting at 22 times the
-// events already written".
-#[tactic(auto, unfolding(rules::specs::Forms::form_bytes, rules::specs::Events::event_bytes))]
+// events already written". The compiler makes of each number's line one instruction that turns its bytes round and one store.
+#[tactic(auto, unfolding(rules::specs::Forms::form_bytes, rules::specs::Forms::bytes_of, rules::specs::Events::event_bytes))]
 pub fn write_event(out: &mut [u8], e: Event)
     requires { 22 ≤ length out.old }
     ensures { out.new ≡ event_bytes e ++ drop 22 out.old }
 {
     let form = events::form_of(e);
-    let bytes = form_bytes(form);
-    let mut i: usize = 0;
-    while i < EVENT_SIZE {
-        out[i] = bytes[i];
-        i += 1;
-    }
+    out[..6].copy_from_slice(&[0, EVENT_COUNT, VERSION, form.kind, form.pad, form.name]);
+    out[6..10].copy_from_slice(&form.code.to_be_bytes());
+    out[10..14].copy_from_slice(&form.bits.to_be_bytes());
+    out[14..EVENT_SIZE].copy_from_slice(&form.time.to_be_bytes());
 }
 
 // ---- the record that a step looks at
@@ -321,8 +218,8 @@ pub fn next_record(s: &[u8], at: usize, waiting: u8) -> NextRecord
     }
     let read = read_record(s, at);
     match read {
-        RecordRead::Record(raw) => NextRecord { raw, fits: true },
-        RecordRead::Malformed => NextRecord {
+        Some(raw) => NextRecord { raw, fits: true },
+        None => NextRecord {
             raw: blank,
             fits: false,
         },

@@ -35,12 +35,12 @@ pub fn zone_of(x: f32) -> u8
     ensures { result ≡ zone_of x }
 {
     if in_plus(true, x) {
-        return PLUS_ZONE;
+        PLUS_ZONE
+    } else if in_minus(true, x) {
+        MINUS_ZONE
+    } else {
+        MIDDLE_ZONE
     }
-    if in_minus(true, x) {
-        return MINUS_ZONE;
-    }
-    MIDDLE_ZONE
 }
 
 // ---- a pad
@@ -82,10 +82,10 @@ fn axis_of(name: u8) -> usize
 pub fn place(pad: u8, name: u8) -> usize
     ensures { result ≡ zone_place pad name }
 {
-    ZONES_PER_PAD * choices::wide(pad) + axis_of(name)
+    ZONES_PER_PAD * usize::from(pad) + axis_of(name)
 }
 
-// What a hat that turns sees: whether its pad is a zone pad, and the zone of its last converted value.
+// What a hat that turns sees: whether its pad is a zone pad, and the zone of its last converted value. No Option: `KeptIs` tells the zone of any pad.
 #[derive(Clone, Copy)]
 pub struct HatZone {
     pub zoned: bool,
@@ -98,13 +98,13 @@ pub fn turn(hats: &[u8; 4], zones: &mut [u8; 8], pad: u8, name: u8, x: f32) -> H
 {
     let at = place(pad, name);
     let by_zones = zoned(hats, pad);
-    let before = pad::zone_at(zones, at);
+    let zone = pad::zone_at(zones, at);
     if by_zones {
         pad::set_zone(zones, at, zone_of(x));
     }
     HatZone {
         zoned: by_zones,
-        zone: before,
+        zone,
     }
 }
 
@@ -113,7 +113,7 @@ pub fn turn(hats: &[u8; 4], zones: &mut [u8; 8], pad: u8, name: u8, x: f32) -> H
 pub fn centre(zones: &mut [u8; 8], pad: u8)
     ensures { zones.new ≡ centred_of zones.old pad }
 {
-    let first = ZONES_PER_PAD * choices::wide(pad);
+    let first = ZONES_PER_PAD * usize::from(pad);
     pad::set_zone(zones, first, MIDDLE_ZONE);
     pad::set_zone(zones, first + 1, MIDDLE_ZONE);
 }

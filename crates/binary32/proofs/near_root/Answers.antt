@@ -11,8 +11,8 @@ returns-then-r-w c =
     let r = c.floor_root-r.result in
     sym (near-is w r c.requires.1 c.floor_root-r.ensures ∙ ap (λ (b : Bool). cond b (r + 1) r) (lt-ltb r (w - r * r) c.if-r-w.true))
 
-pub returns : goal.returns
-returns c =
+pub returns-else-r-w : goal.returns-else-r-w
+returns-else-r-w c =
     let w = c.args.w in
     let r = c.floor_root-r.result in
     sym (near-is w r c.requires.1 c.floor_root-r.ensures ∙ ap (λ (b : Bool). cond b (r + 1) r) (le-ltb r (w - r * r) c.if-r-w.false))

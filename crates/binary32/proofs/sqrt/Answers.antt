@@ -1,23 +1,19 @@
 -- `sqrt` meets its contract: by the bits, each way through the code is one clause of `sqrt_of`. The way below 0 is `minus_root`, which the attribute names.
-use Rattle.std.specs.Prelude.{◌≡◌, T, Float}
-use Rattle.std.proofs.Common.{sym, ap, ◌∙◌, subst, arith}
+use Rattle.std.specs.Prelude.{◌≡◌, Float}
+use Rattle.std.proofs.Common.{sym, ap, ◌∙◌, arith}
 use Rattle.std.specs.Float.{nan, binary32}
 use Rattle.std.specs.Float.Ieee.{to_bits}
-use Rattle.std.specs.Float.Ieee.Compare.{differs_from_itself}
 use Rattle.numbers.specs.Root.{sqrt_of}
-use Rattle.binary32.specs.Patterns.{no_nan, at-zeros, at_top, at-plus}
-use Rattle.binary32.proofs.Told.{by_bits, width}
+use Rattle.binary32.specs.Patterns.{at-zeros, at_top, at-plus}
+use Rattle.binary32.proofs.Told.{the_nan, by_bits, width}
 use Rattle.binary32.proofs.sqrt.Goals as goal
 
 nan-root : (x : Float) → x ≡ nan → x ≡ sqrt_of x
 unfolding sqrt_of
 nan-root x e = e ∙ ap sqrt_of (sym e)
 
-pub returns-then-x : goal.returns-then-x
-returns-then-x c = nan-root c.args.x (differs_from_itself c.args.x (subst T (sym c.if-x.true) tt))
-
-pub float_to_bits-bits : goal.float_to_bits-bits
-float_to_bits-bits c = no_nan c.args.x c.if-x.false
+pub returns-then-is_nan : goal.returns-then-is_nan
+returns-then-is_nan c = nan-root c.args.x (the_nan c.args.x (sym c.is_nan.ensures.value ∙ c.if-is_nan.true))
 
 pub returns-then-bits-eq0 : goal.returns-then-bits-eq0
 returns-then-bits-eq0 c =

@@ -1,20 +1,15 @@
 -- `clock::first_place` meets its contract: what the pads from here on give is what all of them give.
-use Rattle.std.proofs.Common.{◌∙◌, arith}
+use Rattle.std.proofs.Common.{rules, ◌∙◌, arith}
+use Rattle.rules.specs.Names.{nowhere}
 use Rattle.clock.specs.Runs.{pad-gives, pad-quiet, pads-end}
 use Rattle.clock.proofs.first_place.Goals as goal
 
-pub returns-then-place-lt-NOWHERE : goal.returns-then-place-lt-NOWHERE
-returns-then-place-lt-NOWHERE c =
-    pad-gives _ _ _ _ _ _ c.loop-p.p _ (omega arith) c.first_on-place.ensures c.if-place-lt-NOWHERE.true ∙ c.loop-p.invariant.same
+pub returns-in-Some : goal.returns-in-Some
+returns-in-Some c =
+    (pad-gives _ _ _ _ _ _ c.loop-p.p _ (omega arith) c.in-Some.ensures.0 c.in-Some.ensures.1 ∙ c.loop-p.invariant, c.in-Some.ensures.1)
 
 pub loop-p-preserved : goal.loop-p-preserved
-loop-p-preserved c =
-    record {
-      within = omega arith;
-      same =
-          pad-quiet _ _ _ _ _ _ c.loop-p.p _ (omega arith) c.first_on-place.ensures c.if-place-lt-NOWHERE.false
-          ∙ c.loop-p.invariant.same;
-    }
+loop-p-preserved c = pad-quiet _ _ _ _ _ _ c.loop-p.p nowhere (omega arith) c.in_default.ensures.0 (omega arith) ∙ c.loop-p.invariant
 
 pub returns : goal.returns
-returns c = pads-end _ _ _ _ _ _ c.loop-p.p (omega arith) ∙ c.loop-p.invariant.same
+returns c = (pads-end _ _ _ _ _ _ c.loop-p.p (omega arith) ∙ c.loop-p.invariant, search rules)

@@ -1,4 +1,4 @@
--- `columns::put_slot` meets its contract: the law of the store (`slot-put`), with the arrays as long as they were told to be.
+-- `columns::put_slot` meets its contract: the law of the store (`slot-put`), with the arrays as long as their types tell.
 use Rattle.columns.specs.Stores.{slot-put}
 use Rattle.columns.proofs.put_slot.Goals as goal
 
@@ -6,4 +6,4 @@ pub returns : goal.returns
 returns c =
     let a = c.args in
     slot-put a.values.now a.times.now a.queuebytes.now a.queuecodes.now a.k a.s c.requires
-    c.whole_values.ensures c.whole_times.ensures c.whole_bytes.ensures c.whole_codes.ensures
+    c.told-values c.told-times c.told-queuebytes c.told-queuecodes

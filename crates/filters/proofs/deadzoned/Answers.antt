@@ -2,6 +2,6 @@
 use Rattle.filters.specs.Meets.{stick-meets}
 use Rattle.filters.proofs.deadzoned.Goals as goal
 
-pub returns-then-v : goal.returns-then-v
-returns-then-v c =
-    rw (c.stick.ensures, c.apply_deadzone-f.ensures, c.beside.ensures) (stick-meets c.args.v c.args.e c.in-Axis.is c.if-v.true)
+pub returns-in-Axis : goal.returns-in-Axis
+returns-in-Axis c =
+    rw (c.stick.ensures, c.apply_deadzone-f.ensures, c.chosen.ensures) (stick-meets c.args.v c.args.e c.in-Axis.is c.if-v.true)

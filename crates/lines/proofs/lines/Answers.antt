@@ -11,23 +11,22 @@ use Rattle.lines.proofs.lines.Goals as goal
 pub returns-then-out-at : goal.returns-then-out-at
 unfolding held_of
 returns-then-out-at c =
-    let held : c.least-held.result ≡ held_of c.args.events.now c.args.count = c.least-held.ensures in
+    let held : c.min-held.result ≡ held_of c.args.events.now c.args.count = c.min-held.ensures in
     let h : length c.args.out.now < c.args.at + 94 * held_of c.args.events.now c.args.count = omega arith in
     untouched _ _ _ _ (lines-short _ _) h
 
 pub returns-then-out-at-2 : goal.returns-then-out-at-2
 unfolding held_of
 returns-then-out-at-2 c =
-    let held : c.least-held.result ≡ held_of c.args.events.now c.args.count = c.least-held.ensures in
+    let held : c.min-held.result ≡ held_of c.args.events.now c.args.count = c.min-held.ensures in
     let h : length c.args.out.now < c.args.at + 94 * held_of c.args.events.now c.args.count = omega arith in
     untouched _ _ _ _ (lines-short _ _) h
 
 pub loop-i-init : goal.loop-i-init
 unfolding held_of lines_of
 loop-i-init c =
-    let held : c.least-held.result ≡ held_of c.args.events.now c.args.count = c.least-held.ensures in
+    let held : c.min-held.result ≡ held_of c.args.events.now c.args.count = c.min-held.ensures in
     record {
-      within = omega arith;
       inside = omega (arith, held_fits c.args.events.now c.args.count);
       room = omega arith;
       laid = laid_none _ _ (omega arith);
@@ -43,7 +42,6 @@ loop-i-preserved c =
     let text : lines_of events l.i ++ line_of c.fields-event.result ≡ lines_of events (l.i + 1) =
     ap (λ (e : EventForm). lines_of events l.i ++ line_of e) (c.fields-event.ensures ∙ ap event_fields whole) ∙ sym (lines_more events l.i) in
     record {
-      within = omega arith;
       inside = l.invariant.inside;
       room = l.invariant.room;
       laid = grown _ _ _ _ _ _ _ _ (more _ _ _ _ _ _ _ _ _ _ l.invariant.laid c.line-next.ensures (omega arith)) text (omega arith);

@@ -1,17 +1,13 @@
 -- `lines` prints one event after the other: the lines of the first i events are laid.
-use Rattle.std.proofs.Common.{◌≡◌, ◌+◌, ◌-◌, ◌*◌, ◌≤◌, length}
+use Rattle.std.proofs.Common.{◌≡◌, ◌+◌, ◌*◌, ◌≤◌, length}
 use Rattle.lines.specs.Text.{held_of, lines_of}
 use Rattle.lines.proofs.Laws.{Laid}
 use Rattle.lines.proofs.lines.Given as goal
 
 abbrev pub invariant-loop-i : goal.invariant-loop-i
 invariant-loop-i l = record {
-  within : l.i ≤ l.held;
   inside : 22 * l.held ≤ length l.events;
   room : l.at + 94 * l.held ≤ length l.fn.out;
   laid : Laid (94 * l.i) (lines_of l.events l.i) l.fn.out l.at l.out l.next;
   all : l.held ≡ held_of l.events l.fn.count;
 }
-
-abbrev pub decreases-loop-i : goal.decreases-loop-i
-decreases-loop-i l = l.held - l.i

@@ -11,7 +11,7 @@ returns-then-codes-start-2 c =
     sought-before _ (search rules) c.if-codes-start.false
     (sought-behind _ (search rules) c.if-codes-start-2.true c.seek_twelve-then-codes-start-2.ensures)
 
-pub returns : goal.returns
-returns c =
+pub returns-else-codes-start-2 : goal.returns-else-codes-start-2
+returns-else-codes-start-2 c =
     sought-before _ (search rules) c.if-codes-start.false
     (sought-before _ (search rules) c.if-codes-start-2.false (sought-half c.half_of-six.ensures c.seek_six.ensures))

@@ -6,6 +6,6 @@ use Rattle.pad.proofs.seek_six.Goals as goal
 pub returns-then-codes-start : goal.returns-then-codes-start
 returns-then-codes-start c = sought-behind _ (search rules) c.if-codes-start.true c.seek_two.ensures
 
-pub returns : goal.returns
-returns c =
+pub returns-else-codes-start : goal.returns-else-codes-start
+returns-else-codes-start c =
     sought-before _ (search rules) c.if-codes-start.false (sought-half c.half_of-one.ensures (sought-half c.half_of.ensures sought-none))

@@ -6,5 +6,5 @@ use Rattle.pad.proofs.seek_twelve.Goals as goal
 pub returns-then-codes-start : goal.returns-then-codes-start
 returns-then-codes-start c = sought-behind _ (search rules) c.if-codes-start.true (sought-half c.half_of-two.ensures c.seek_two.ensures)
 
-pub returns : goal.returns
-returns c = sought-before _ (search rules) c.if-codes-start.false c.seek_six.ensures
+pub returns-else-codes-start : goal.returns-else-codes-start
+returns-else-codes-start c = sought-before _ (search rules) c.if-codes-start.false c.seek_six.ensures

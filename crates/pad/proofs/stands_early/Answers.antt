@@ -4,5 +4,4 @@ use Rattle.pad.specs.Search.{early-next}
 use Rattle.pad.proofs.stands_early.Goals as goal
 
 pub loop-i-preserved : goal.loop-i-preserved
-loop-i-preserved c =
-    record { room = omega arith; same = early-next _ _ c.loop-i.i _ _ c.loop-i.found (omega arith) c.loop-i.invariant.same }
+loop-i-preserved c = early-next _ _ c.loop-i.i _ _ c.loop-i.found (omega arith) c.loop-i.invariant

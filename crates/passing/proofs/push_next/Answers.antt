@@ -2,5 +2,5 @@
 use Rattle.queueing.specs.Queued.{pushed_none}
 use Rattle.passing.proofs.push_next.Goals as goal
 
-pub returns : goal.returns
-returns c = rw c.if-t.false pushed_none
+pub returns-clause-pushed : goal.returns-clause-pushed
+returns-clause-pushed c = rw c.if-t.false pushed_none

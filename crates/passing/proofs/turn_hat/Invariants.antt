@@ -1,15 +1,13 @@
--- The first x of the events that the hat queues are pushed; the measure is what is left of them.
-use Rattle.std.proofs.Common.{◌-◌, ◌≤◌, take}
+-- The first x of the events that the hat queues are pushed.
+use Rattle.std.proofs.Common.{take}
 use Rattle.rules.specs.Filters.{dpad_of}
+use Rattle.hub.specs.Holding.{QueueAlone}
 use Rattle.queueing.specs.Queued.{Pushed}
 use Rattle.passing.proofs.turn_hat.Given as goal
 
 abbrev pub invariant-loop-x : goal.invariant-loop-x
 invariant-loop-x l = record {
-  counted : l.x ≤ l.count;
-  pushed : Pushed l.fn.values l.fn.times l.fn.queuebytes l.fn.queuecodes l.head l.waiting (take l.x (dpad_of l.v l.e).queued) l.values l.times l.queuebytes
-      l.queuecodes l.all;
+  pushed : Pushed l.fn.lent.values.now l.fn.lent.times.now l.fn.lent.queuebytes.now l.fn.lent.queuecodes.now l.head l.waiting
+      (take l.x (dpad_of l.v l.e).queued) l.lent.values.now l.lent.times.now l.lent.queuebytes.now l.lent.queuecodes.now l.all;
+  alone : QueueAlone l.fn.lent l.lent;
 }
-
-abbrev pub decreases-loop-x : goal.decreases-loop-x
-decreases-loop-x l = l.count - l.x

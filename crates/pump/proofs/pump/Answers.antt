@@ -1,9 +1,10 @@
 -- `pump::pump` meets its contract: at the head of each loop the run that is left from where the pump stands is the whole call's (`Loops`), a turn of the inner
 -- loop is one step of the law book (`Turns`), and a kept event's bytes are the law book's (`Writes`).
-use Rattle.std.proofs.Common.{◌-◌, ◌/◌, ◌≤◌, ◌∙◌, sym, refl, arith, length-drop, length-take}
+use Rattle.std.proofs.Common.{◌-◌, ◌/◌, ◌≤◌, ◌∙◌, sym, refl, arith, rules, length-drop, length-take}
 use Rattle.rules.specs.Forms.{event_size}
 use Rattle.pump_laws.specs.Runs.{each, roomy, pump-refuses}
-use Rattle.hub.specs.Lent.{listed, columns, hub_of}
+use Rattle.hub.specs.Lent.{hub_of}
+use Rattle.hub.specs.Holding.{listed_now, columns_now}
 use Rattle.taking.specs.Taking.{taken_in}
 use Rattle.pump.proofs.Loops.{hub_at, begins, stops, refuses, skips, writes}
 use Rattle.pump.proofs.Turns.{meets, drops, keeps}
@@ -14,18 +15,18 @@ use Rattle.pump.proofs.pump.Goals as goal
 pub returns-then-refused-gt0 : goal.returns-then-refused-gt0
 returns-then-refused-gt0 c =
     let a = c.args in
-    let h = hub_of a.head (listed a.codes.now a.kinds.now a.names.now a.renames.now)
-    (columns a.hasbutton.now a.hasaxis.now a.values.now a.times.now a.marks.now a.queuebytes.now a.queuecodes.now) in
-    each (pump-refuses h a.batch.now a.place a.out.now a.allowance c.pump_refusal-refused.ensures c.if-refused-gt0.true)
+    let h = hub_of a.head (listed_now a.listed.now) (columns_now a.lent.now) in
+    let e = each (pump-refuses h a.batch.now a.place a.out.now a.allowance c.pump_refusal-refused.ensures c.if-refused-gt0.true) in
+    record { pumped = e.0; tilt = e.1; same = search rules }
 
 pub loop-converts-init : goal.loop-converts-init
 loop-converts-init c =
     let a = c.args in
-    let h = hub_of a.head (listed a.codes.now a.kinds.now a.names.now a.renames.now)
-    (columns a.hasbutton.now a.hasaxis.now a.values.now a.times.now a.marks.now a.queuebytes.now a.queuecodes.now) in
+    let h = hub_of a.head (listed_now a.listed.now) (columns_now a.lent.now) in
     record {
       going = begins h a.batch.now a.place a.out.now a.allowance c.pump_refusal-refused.ensures c.if-refused-gt0.false (omega (arith, c.ranges.allowance));
       filled = refl;
+      same = search rules;
       few = omega arith;
     }
 
@@ -35,8 +36,8 @@ returns-then-why-gt0 c =
     let a = c.args in
     let o = c.loop-converts in
     let l = c.loop-converts-2 in
-    rw c.stepped.ensures
-    (each (stops o.filled a.allowance l.invariant.going o.invariant.filled c.stop-why.ensures c.if-why-gt0.true c.stop_answer.ensures))
+    let e = each (stops o.filled a.allowance l.invariant.going o.invariant.filled c.stop-why.ensures c.if-why-gt0.true c.stop_answer.ensures) in
+    record { pumped = rw c.stepped.ensures e.0; tilt = e.1; same = search rules }
 
 -- a record that is refused
 pub returns-then-taken-gt0 : goal.returns-then-taken-gt0
@@ -44,11 +45,11 @@ returns-then-taken-gt0 c =
     let a = c.args in
     let o = c.loop-converts in
     let l = c.loop-converts-2 in
-    let h = hub_at a.head l.connected l.renamed l.down l.held l.heldaxes l.flags l.front l.waiting (listed a.codes.now a.kinds.now a.names.now a.renames.now)
-    (columns l.hasbutton l.hasaxis l.values l.times o.marks l.queuebytes l.queuecodes) in
+    let h = hub_at a.head l.connected l.renamed l.down l.held l.heldaxes l.flags l.front l.waiting (listed_now a.listed.now)
+    (columns_now l.lent) in
     let t = taken_in h a.batch.now l.at c.take-taken.ensures in
-    rw c.stepped-then-taken-gt0.ensures
-    (each (refuses o.filled a.allowance l.invariant.going o.invariant.filled c.stop-why.ensures c.if-why-gt0.false t.number c.if-taken-gt0.true))
+    let e = each (refuses o.filled a.allowance l.invariant.going o.invariant.filled c.stop-why.ensures c.if-why-gt0.false t.number c.if-taken-gt0.true) in
+    record { pumped = rw c.stepped-then-taken-gt0.ensures e.0; tilt = e.1; same = search rules }
 
 -- where no stop is answered, a step is left
 pub overflow_sub-left : goal.overflow_sub-left
@@ -67,9 +68,9 @@ loop-converts-2-preserved c =
     let a = c.args in
     let o = c.loop-converts in
     let l = c.loop-converts-2 in
-    let s = listed a.codes.now a.kinds.now a.names.now a.renames.now in
+    let s = listed_now a.listed.now in
     let h = hub_at a.head l.connected l.renamed l.down l.held l.heldaxes l.flags l.front l.waiting s
-    (columns l.hasbutton l.hasaxis l.values l.times o.marks l.queuebytes l.queuecodes) in
+    (columns_now l.lent) in
     let t = taken_in h a.batch.now l.at c.take-taken.ensures in
     let g = t.given c.if-taken-gt0.false in
     let few : l.left ≤ a.allowance = omega (arith, l.invariant.fewer, o.invariant.few) in
@@ -81,8 +82,9 @@ loop-converts-2-preserved c =
       going =
           skips o.filled a.allowance l.invariant.going o.invariant.filled c.stop-why.ensures c.if-why-gt0.false t.number
           few c.if-taken-gt0.false (g.within l.invariant.going.at_small)
-          (meets a.head s o.marks l.values l.times l.queuebytes l.queuecodes g joins.0 joins.1 o.out events steps l.tilt serves.2)
-          (drops a.head s o.marks l.values l.times l.queuebytes l.queuecodes g joins.0 joins.1 o.out events steps serves.1 (sym c.kept.ensures ∙ c.if-kept.false));
+          (meets a.head s l.lent.marks.now l.lent.values.now l.lent.times.now l.lent.queuebytes.now l.lent.queuecodes.now g joins.0 joins.1 o.out events steps l.tilt serves.met)
+          (drops a.head s l.lent.marks.now l.lent.values.now l.lent.times.now l.lent.queuebytes.now l.lent.queuecodes.now g joins.0 joins.1 o.out events steps serves.served (sym c.kept.ensures ∙ c.if-kept.false));
+      same = search rules;
       fewer = omega (arith, l.invariant.fewer);
     }
 
@@ -103,9 +105,9 @@ loop-converts-preserved c =
     let a = c.args in
     let o = c.loop-converts in
     let l = c.loop-converts-2 in
-    let s = listed a.codes.now a.kinds.now a.names.now a.renames.now in
+    let s = listed_now a.listed.now in
     let h = hub_at a.head l.connected l.renamed l.down l.held l.heldaxes l.flags l.front l.waiting s
-    (columns l.hasbutton l.hasaxis l.values l.times o.marks l.queuebytes l.queuecodes) in
+    (columns_now l.lent) in
     let t = taken_in h a.batch.now l.at c.take-taken.ensures in
     let g = t.given c.if-taken-gt0.false in
     let few : l.left ≤ a.allowance = omega (arith, l.invariant.fewer, o.invariant.few) in
@@ -120,10 +122,11 @@ loop-converts-preserved c =
       going =
           writes o.filled a.allowance l.invariant.going o.invariant.filled c.stop-why.ensures c.if-why-gt0.false t.number
           few c.if-taken-gt0.false (g.within l.invariant.going.at_small)
-          (meets a.head s o.marks l.values l.times l.queuebytes l.queuecodes g joins.0 joins.1 o.out events steps l.tilt serves.2)
+          (meets a.head s l.lent.marks.now l.lent.values.now l.lent.times.now l.lent.queuebytes.now l.lent.queuecodes.now g joins.0 joins.1 o.out events steps l.tilt serves.met)
           (as_long o.out events o.invariant.filled r.room-left e c.write_event.ensures)
-          (keeps a.head s o.marks l.values l.times l.queuebytes l.queuecodes g joins.0 joins.1 o.out events steps serves.1 kept (serves.0.is kept)
-          c.settle-change.ensures c.follow.ensures (written o.out events o.invariant.filled r.room-left e c.write_event.ensures));
+          (keeps a.head s l.lent.marks.now l.lent.values.now l.lent.times.now l.lent.queuebytes.now l.lent.queuecodes.now g joins.0 joins.1 o.out events steps serves.served kept (serves.sent.is kept)
+          c.settle-change.ensures.settled c.follow.ensures (written o.out events o.invariant.filled r.room-left e c.write_event.ensures));
       filled = omega (arith, o.invariant.filled);
+      same = search rules;
       few = omega (arith, few);
     }

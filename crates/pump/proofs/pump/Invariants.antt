@@ -4,7 +4,8 @@ use Rattle.std.proofs.Common.{◌≡◌, ◌-◌, ◌*◌, ◌/◌, ◌≤◌}
 use Rattle.rules.specs.Forms.{event_size}
 use Rattle.pump_laws.specs.Runs.{call}
 use Rattle.pump_laws.specs.Going.{Going}
-use Rattle.hub.specs.Lent.{listed, columns, hub_of}
+use Rattle.hub.specs.Lent.{hub_of}
+use Rattle.hub.specs.Holding.{listed_now, columns_now, Same}
 use Rattle.pump.proofs.Loops.{hub_at}
 use Rattle.pump.proofs.pump.Given as goal
 
@@ -12,12 +13,11 @@ use Rattle.pump.proofs.pump.Given as goal
 abbrev pub invariant-loop-converts-2 : goal.invariant-loop-converts-2
 invariant-loop-converts-2 l = record {
   going : Going
-      (hub_at l.fn.head l.connected l.renamed l.down l.held l.heldaxes l.flags l.front l.waiting (listed l.codes l.kinds l.names l.renames)
-      (columns l.hasbutton l.hasaxis l.values l.times l.marks l.queuebytes l.queuecodes))
+      (hub_at l.fn.head l.connected l.renamed l.down l.held l.heldaxes l.flags l.front l.waiting (listed_now l.listed) (columns_now l.lent))
       l.batch l.at l.out (l.filled / event_size) (l.most - l.left) l.left l.tilt
-      (call (hub_of l.fn.head (listed l.fn.codes l.fn.kinds l.fn.names l.fn.renames)
-      (columns l.fn.hasbutton l.fn.hasaxis l.fn.values l.fn.times l.fn.marks l.fn.queuebytes l.fn.queuecodes))
+      (call (hub_of l.fn.head (listed_now l.fn.listed) (columns_now l.fn.lent))
       l.fn.batch l.fn.place l.fn.out l.fn.allowance);
+  same : Same l.fn.lent l.lent;
   fewer : l.left ≤ l.initial.left;
 }
 
@@ -28,13 +28,12 @@ decreases-loop-converts-2 l = l.left
 abbrev pub invariant-loop-converts : goal.invariant-loop-converts
 invariant-loop-converts l = record {
   going : Going
-      (hub_at l.fn.head l.connected l.renamed l.down l.held l.heldaxes l.flags l.front l.waiting (listed l.codes l.kinds l.names l.renames)
-      (columns l.hasbutton l.hasaxis l.values l.times l.marks l.queuebytes l.queuecodes))
+      (hub_at l.fn.head l.connected l.renamed l.down l.held l.heldaxes l.flags l.front l.waiting (listed_now l.listed) (columns_now l.lent))
       l.batch l.at l.out (l.filled / event_size) (l.most - l.left) l.left l.tilt
-      (call (hub_of l.fn.head (listed l.fn.codes l.fn.kinds l.fn.names l.fn.renames)
-      (columns l.fn.hasbutton l.fn.hasaxis l.fn.values l.fn.times l.fn.marks l.fn.queuebytes l.fn.queuecodes))
+      (call (hub_of l.fn.head (listed_now l.fn.listed) (columns_now l.fn.lent))
       l.fn.batch l.fn.place l.fn.out l.fn.allowance);
   filled : l.filled ≡ event_size * (l.filled / event_size);
+  same : Same l.fn.lent l.lent;
   few : l.left ≤ l.most;
 }
 

@@ -1,15 +1,10 @@
 -- `buttons` prints a pad's places one after the other: the lines of the first i places stand there.
-use Rattle.std.proofs.Common.{◌≡◌, ◌-◌, ◌≤◌}
+use Rattle.std.proofs.Common.{◌≡◌}
 use Rattle.columns.specs.Columns.{buttons_of}
 use Rattle.replay_words.specs.Pieces.{written, laid_all}
 use Rattle.replay_dump.specs.Dump.{button_lines}
 use Rattle.replay_dump.proofs.buttons.Given as goal
 
 abbrev pub invariant-loop-i : goal.invariant-loop-i
-invariant-loop-i l = record {
-  within : l.i ≤ 52;
-  printed : written l.text l.next ≡ laid_all (button_lines l.codes l.hasbutton (buttons_of l.values l.times l.marks) l.p l.i) (written l.fn.text l.fn.at);
-}
-
-abbrev pub decreases-loop-i : goal.decreases-loop-i
-decreases-loop-i l = 52 - l.i
+invariant-loop-i l =
+    written l.text l.next ≡ laid_all (button_lines l.codes l.hasbutton (buttons_of l.values l.times l.marks) l.p l.i) (written l.fn.text l.fn.at)

@@ -6,15 +6,13 @@ use Rattle.replay_dump.proofs.Laws.{one_more}
 use Rattle.replay_dump.proofs.dump.Goals as goal
 
 pub loop-p-preserved : goal.loop-p-preserved
-loop-p-preserved c = record {
-  within = omega arith;
-  printed = λ kinds names renames queuebytes queuecodes.
-      one_more _ _ _ (c.loop-p.invariant.printed kinds names renames queuebytes queuecodes)
-      (c.pad_lines-next.ensures kinds names renames queuebytes queuecodes);
-}
+loop-p-preserved c =
+    λ kinds names renames queuebytes queuecodes.
+    one_more _ _ _ (c.loop-p.invariant kinds names renames queuebytes queuecodes)
+    (c.pad_lines-next.ensures kinds names renames queuebytes queuecodes)
 
 pub returns : goal.returns
 unfolding dump_pieces
 returns c kinds names renames queuebytes queuecodes =
     let all : c.loop-p.p ≡ 4 = omega arith in
-    behind _ _ _ (rw all at (c.loop-p.invariant.printed kinds names renames queuebytes queuecodes)) c.last.ensures
+    behind _ _ _ (rw all at (c.loop-p.invariant kinds names renames queuebytes queuecodes)) c.last.ensures

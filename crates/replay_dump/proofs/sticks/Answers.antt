@@ -1,12 +1,8 @@
 -- `replay_dump::sticks` meets its contract: a turn prints the line of one place more.
-use Rattle.std.proofs.Common.{arith}
 use Rattle.replay_dump.proofs.Laws.{one_more}
 use Rattle.replay_dump.proofs.sticks.Goals as goal
 
 pub loop-i-preserved : goal.loop-i-preserved
-loop-i-preserved c = record {
-  within = omega arith;
-  printed =
-      one_more _ _ _ c.loop-i.invariant.printed
-      (rw (← c.place-k.ensures, ← c.code_at.ensures, ← c.bool_at.ensures, ← c.axis_at-a.ensures) c.stick-next.ensures);
-}
+loop-i-preserved c =
+    one_more _ _ _ c.loop-i.invariant
+    (rw (← c.place-k.ensures, ← c.code_at.ensures, ← c.bool_at.ensures, ← c.axis_at-a.ensures) c.stick-next.ensures)

@@ -2,5 +2,5 @@
 use Rattle.replay_words.proofs.Laws.{lays}
 use Rattle.replay_lines.proofs.done.Goals as goal
 
-pub returns-in-Done : goal.returns-in-Done
-returns-in-Done c = rw c.in-Done.is (lays c.append.ensures)
+pub returns-in-Ok : goal.returns-in-Ok
+returns-in-Ok c = rw c.in-Ok.is (lays c.append.ensures)

@@ -2,5 +2,5 @@
 use Rattle.replay_words.proofs.Laws.{lays}
 use Rattle.replay_lines.proofs.registered.Goals as goal
 
-pub returns-in-Pad : goal.returns-in-Pad
-returns-in-Pad c = rw c.in-Pad.is (lays c.labelled.ensures)
+pub returns-in-Ok : goal.returns-in-Ok
+returns-in-Ok c = rw c.in-Ok.is (lays c.labelled.ensures)

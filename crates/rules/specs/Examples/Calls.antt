@@ -1,12 +1,10 @@
 -- The public calls: new, register, rename, update, insert_event and the counter.
-use Rattle.std.specs.Prelude.{ℕ, zero, suc, ◌≡◌, refl, true, false, List, [], ◌∷◌, take, replicate}
+use Rattle.std.specs.Prelude.{ℕ, zero, suc, ◌≡◌, refl, true, false, List, [], ◌∷◌, take, replicate, Err, Ok}
 use Rattle.std.specs.Float.Ieee as Ieee
 use Rattle.numbers.specs.Constants.{one32}
 use Rattle.rules.specs.declared.Hub.{Hub}
 use Rattle.rules.specs.declared.Event.{Event}
 use Rattle.rules.specs.declared.EventType.TheVariants.{Pressed, Changed, Axis, Connected, Disconnected}
-use Rattle.rules.specs.declared.Answer.TheVariants as answer
-use Rattle.rules.specs.declared.RegisterAnswer.TheVariants as register_answer
 use Rattle.rules.specs.declared.PumpAnswer.TheVariants.{Drained}
 use Rattle.rules.specs.Names.{code_up, code_right, dpad_right}
 use Rattle.rules.specs.Sheets.{sheet_bytes}
@@ -15,11 +13,12 @@ use Rattle.rules.specs.Places.{place_of}
 use Rattle.rules.specs.Calls.{new_of, register_as, register_of, register_archived_of, rename_of, update_of, insert_of, inc_of, reset_of}
 use Rattle.rules.specs.Examples.Table.{◌is◌, Right, button, event, half32, three_quarters32}
 use Rattle.rules.specs.Examples.Desk.{bare, desk, south, stick_x, hat_x, raw, press, disconnect, pump, after, tells, told, events_bytes, given}
+use Rattle.rules.specs.Refusals.{numbered}
 
 -- ---- new
 
 new-answers :
-    Right ((new_of three_quarters32 half32 false true true).answer is answer.Done ∷ (new_of half32 half32 false true true).answer is answer.Refused 1 ∷ [])
+    Right ((new_of three_quarters32 half32 false true true).answer is Ok tt ∷ (new_of half32 half32 false true true).answer is Err (numbered 1) ∷ [])
 unfolding new_of Ieee.of_bits Ieee.lt Ieee.le
 new-answers = refl
 
@@ -56,13 +55,13 @@ blank (suc n) = (register_of (blank n) (sheet_bytes 0 [])).hub
 
 registers :
     Right (
-    (register_of (blank 0) (sheet_bytes 0 [])).answer is register_answer.Pad 0
-    ∷ (register_of (blank 3) (sheet_bytes 0 [])).answer is register_answer.Pad 3
-    ∷ (register_of (blank 4) (sheet_bytes 0 [])).answer is register_answer.Refused 2
-    ∷ (register_of (blank 4) []).answer is register_answer.Refused 2
-    ∷ (register_of (blank 0) []).answer is register_answer.Refused 3
-    ∷ (register_of (blank 0) (sheet_bytes 16 [])).answer is register_answer.Refused 4
-    ∷ (register_of (blank 0) (sheet_bytes 0 (button 1 7 ∷ button 2 7 ∷ []))).answer is register_answer.Refused 5
+    (register_of (blank 0) (sheet_bytes 0 [])).answer is Ok 0
+    ∷ (register_of (blank 3) (sheet_bytes 0 [])).answer is Ok 3
+    ∷ (register_of (blank 4) (sheet_bytes 0 [])).answer is Err (numbered 2)
+    ∷ (register_of (blank 4) []).answer is Err (numbered 2)
+    ∷ (register_of (blank 0) []).answer is Err (numbered 3)
+    ∷ (register_of (blank 0) (sheet_bytes 16 [])).answer is Err (numbered 4)
+    ∷ (register_of (blank 0) (sheet_bytes 0 (button 1 7 ∷ button 2 7 ∷ []))).answer is Err (numbered 5)
     ∷ [])
 unfolding blank bare register_as sheet_bytes
 registers = refl
@@ -70,12 +69,12 @@ registers = refl
 -- W-212: the archived call takes what `register` refuses by 29, pads of both are numbered together, and partial hats do not convert
 archives :
     Right (
-    (register_of (blank 1) (sheet_bytes 7 [])).answer is register_answer.Refused 29
-    ∷ (register_archived_of (blank 1) (sheet_bytes 7 [])).answer is register_answer.Pad 1
-    ∷ (register_archived_of (blank 1) (sheet_bytes 15 [])).answer is register_answer.Pad 1
-    ∷ (register_of (register_archived_of (blank 1) (sheet_bytes 7 [])).hub (sheet_bytes 0 [])).answer is register_answer.Pad 2
-    ∷ (register_archived_of (blank 4) (sheet_bytes 7 [])).answer is register_answer.Refused 2
-    ∷ (register_of (blank 4) (sheet_bytes 7 [])).answer is register_answer.Refused 2
+    (register_of (blank 1) (sheet_bytes 7 [])).answer is Err (numbered 29)
+    ∷ (register_archived_of (blank 1) (sheet_bytes 7 [])).answer is Ok 1
+    ∷ (register_archived_of (blank 1) (sheet_bytes 15 [])).answer is Ok 1
+    ∷ (register_of (register_archived_of (blank 1) (sheet_bytes 7 [])).hub (sheet_bytes 0 [])).answer is Ok 2
+    ∷ (register_archived_of (blank 4) (sheet_bytes 7 [])).answer is Err (numbered 2)
+    ∷ (register_of (blank 4) (sheet_bytes 7 [])).answer is Err (numbered 2)
     ∷ [])
 unfolding blank bare register_as sheet_bytes
 archives = refl
@@ -141,12 +140,12 @@ list = 2 ∷ 255 ∷ 255 ∷ 255 ∷ 255 ∷ 39 ∷ []
 
 renames :
     Right (
-    (rename_of (desk true true) 0 list).answer is answer.Done
-    ∷ (rename_of (desk true true) 1 []).answer is answer.Refused 6
-    ∷ (rename_of (after (desk true true) (disconnect 5)) 0 []).answer is answer.Refused 7
-    ∷ (rename_of (desk true true) 0 (0 ∷ [])).answer is answer.Refused 3
-    ∷ (rename_of (desk true true) 0 (7 ∷ 7 ∷ 0 ∷ 255 ∷ 255 ∷ 255 ∷ [])).answer is answer.Refused 4
-    ∷ (rename_of (desk true true) 0 (7 ∷ 7 ∷ 255 ∷ 255 ∷ 255 ∷ 255 ∷ [])).answer is answer.Refused 5
+    (rename_of (desk true true) 0 list).answer is Ok tt
+    ∷ (rename_of (desk true true) 1 []).answer is Err (numbered 6)
+    ∷ (rename_of (after (desk true true) (disconnect 5)) 0 []).answer is Err (numbered 7)
+    ∷ (rename_of (desk true true) 0 (0 ∷ [])).answer is Err (numbered 3)
+    ∷ (rename_of (desk true true) 0 (7 ∷ 7 ∷ 0 ∷ 255 ∷ 255 ∷ 255 ∷ [])).answer is Err (numbered 4)
+    ∷ (rename_of (desk true true) 0 (7 ∷ 7 ∷ 255 ∷ 255 ∷ 255 ∷ 255 ∷ [])).answer is Err (numbered 5)
     ∷ [])
 unfolding list desk after raw rename_of
 renames = refl
@@ -182,17 +181,17 @@ one e = events_bytes (e ∷ [])
 
 updates :
     Right (
-    (update_of (desk true true) (one (event 5 (Pressed 1 south)))).answer is answer.Done
-    ∷ (update_of (desk true true) (one (event 5 (Pressed 0 code_up)))).answer is answer.Done
-    ∷ (update_of (desk true true) (one (event 5 (Axis 40 south one32)))).answer is answer.Done
-    ∷ (update_of (desk true true) (one (event 5 (Axis 33 code_up one32)))).answer is answer.Done
-    ∷ (update_of (desk true true) (one (event 5 (Pressed 2 stick_x)))).answer is answer.Done
-    ∷ (update_of (desk true true) []).answer is answer.Refused 8
-    ∷ (update_of (desk true true) (one (event 5 (Pressed 33 0)))).answer is answer.Refused 8
-    ∷ (update_of (bare true true) (one (event 5 (Pressed 1 0)))).answer is answer.Refused 6
-    ∷ (update_of (desk true true) (one (event 5 (Pressed 1 0)))).answer is answer.Refused 9
-    ∷ (update_of (desk true true) (one (event 0x4000000000000000 (Axis 33 stick_x (Ieee.of_bits Ieee.binary32 0x3f800001))))).answer is answer.Refused 11
-    ∷ (update_of (desk true true) (one (event 0x4000000000000000 Connected))).answer is answer.Refused 12
+    (update_of (desk true true) (one (event 5 (Pressed 1 south)))).answer is Ok tt
+    ∷ (update_of (desk true true) (one (event 5 (Pressed 0 code_up)))).answer is Ok tt
+    ∷ (update_of (desk true true) (one (event 5 (Axis 40 south one32)))).answer is Ok tt
+    ∷ (update_of (desk true true) (one (event 5 (Axis 33 code_up one32)))).answer is Ok tt
+    ∷ (update_of (desk true true) (one (event 5 (Pressed 2 stick_x)))).answer is Ok tt
+    ∷ (update_of (desk true true) []).answer is Err (numbered 8)
+    ∷ (update_of (desk true true) (one (event 5 (Pressed 33 0)))).answer is Err (numbered 8)
+    ∷ (update_of (bare true true) (one (event 5 (Pressed 1 0)))).answer is Err (numbered 6)
+    ∷ (update_of (desk true true) (one (event 5 (Pressed 1 0)))).answer is Err (numbered 9)
+    ∷ (update_of (desk true true) (one (event 0x4000000000000000 (Axis 33 stick_x (Ieee.of_bits Ieee.binary32 0x3f800001))))).answer is Err (numbered 11)
+    ∷ (update_of (desk true true) (one (event 0x4000000000000000 Connected))).answer is Err (numbered 12)
     ∷ [])
 unfolding one bare desk events_bytes update_of
 updates = refl
@@ -227,10 +226,10 @@ inserting (suc n) h = inserting n (insert_of h (one (event 5 Connected))).hub
 
 inserts :
     Right (
-    (insert_of (inserting 15 (desk true true)) (one (event 5 Connected))).answer is answer.Done
-    ∷ (insert_of (inserting 16 (desk true true)) (one (event 5 Connected))).answer is answer.Refused 13
-    ∷ (insert_of (inserting 15 half-pumped) (one (event 5 Connected))).answer is answer.Refused 13
-    ∷ (insert_of (inserting 16 (desk true true)) []).answer is answer.Refused 8
+    (insert_of (inserting 15 (desk true true)) (one (event 5 Connected))).answer is Ok tt
+    ∷ (insert_of (inserting 16 (desk true true)) (one (event 5 Connected))).answer is Err (numbered 13)
+    ∷ (insert_of (inserting 15 half-pumped) (one (event 5 Connected))).answer is Err (numbered 13)
+    ∷ (insert_of (inserting 16 (desk true true)) []).answer is Err (numbered 8)
     ∷ [])
 unfolding inserting half-pumped one pump desk raw events_bytes insert_of
 inserts = refl

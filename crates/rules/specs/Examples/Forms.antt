@@ -1,9 +1,7 @@
 -- The byte forms: a good record and a good event, byte by byte, and one of each damaged in every field.
-use Rattle.std.specs.Prelude.{ℕ, ◌≡◌, refl, true, false, List, [], ◌∷◌, ◌++◌, map, set, take, pos, negsuc}
+use Rattle.std.specs.Prelude.{ℕ, ◌≡◌, refl, true, false, List, [], ◌∷◌, ◌++◌, map, set, take, pos, negsuc, None, Some}
 use Rattle.rules.specs.declared.RawRecord.{RawRecord}
-use Rattle.rules.specs.declared.RecordRead.TheVariants as record_read
 use Rattle.rules.specs.declared.EventForm.{EventForm}
-use Rattle.rules.specs.declared.EventRead.TheVariants as event_read
 use Rattle.rules.specs.Forms.{field_of, signed_of, bits_of_signed, read_record, record_fits, record_bytes, read_event, event_fits, form_bytes}
 use Rattle.rules.specs.Examples.Table.{◌is◌, Right}
 
@@ -30,7 +28,7 @@ axis_record = record { kind = 3; pad = 2; code = 0x00030010; value = negsuc 0; t
 axis_bytes : List ℕ
 axis_bytes = 0 ∷ 19 ∷ 1 ∷ 3 ∷ 2 ∷ 0 ∷ 3 ∷ 0 ∷ 16 ∷ 255 ∷ 255 ∷ 255 ∷ 255 ∷ 0 ∷ 0 ∷ 1 ∷ 0 ∷ 0 ∷ 0 ∷ 0 ∷ 100 ∷ []
 
-record-reads : read_record axis_bytes 0 ≡ record_read.Record axis_record
+record-reads : read_record axis_bytes 0 ≡ Some axis_record
 unfolding read_record axis_bytes axis_record
 record-reads = refl
 
@@ -76,7 +74,7 @@ records :
 unfolding record_fits axis_bytes press_bytes connect_bytes
 records = refl
 
-malformed-record : read_record (set axis_bytes 2 2) 0 ≡ record_read.Malformed
+malformed-record : read_record (set axis_bytes 2 2) 0 ≡ None
 unfolding read_record axis_bytes
 malformed-record = refl
 
@@ -89,7 +87,7 @@ stick_form = record { kind = 5; pad = 2; name = 33; code = 0x00030010; bits = 0x
 stick_bytes : List ℕ
 stick_bytes = 0 ∷ 20 ∷ 1 ∷ 5 ∷ 2 ∷ 33 ∷ 0 ∷ 3 ∷ 0 ∷ 16 ∷ 0xbf ∷ 0 ∷ 0 ∷ 0 ∷ 0 ∷ 0 ∷ 1 ∷ 0 ∷ 0 ∷ 0 ∷ 0 ∷ 100 ∷ []
 
-event-reads : read_event stick_bytes ≡ event_read.Form stick_form
+event-reads : read_event stick_bytes ≡ Some stick_form
 unfolding read_event stick_bytes stick_form
 event-reads = refl
 
@@ -119,7 +117,7 @@ damaged-events :
 unfolding event_fits stick_bytes form form_bytes
 damaged-events = refl
 
-malformed-event : read_event (set stick_bytes 2 2) ≡ event_read.Malformed
+malformed-event : read_event (set stick_bytes 2 2) ≡ None
 unfolding read_event stick_bytes
 malformed-event = refl
 

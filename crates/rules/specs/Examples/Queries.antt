@@ -1,17 +1,13 @@
 -- The queries: refusals, the fallback to `to_nec`, axes before buttons, and records that are absent.
-use Rattle.std.specs.Prelude.{refl, true, false, [], ◌∷◌}
+use Rattle.std.specs.Prelude.{refl, true, false, [], ◌∷◌, Err, None, Ok, Some}
 use Rattle.numbers.specs.Constants.{zero32, one32, minus_one32}
 use Rattle.rules.specs.declared.Hub.{Hub}
 use Rattle.rules.specs.declared.EventType.TheVariants.{Pressed, Axis}
-use Rattle.rules.specs.declared.TruthAnswer.TheVariants as truth_answer
-use Rattle.rules.specs.declared.ValueAnswer.TheVariants as value_answer
-use Rattle.rules.specs.declared.ButtonAnswer.TheVariants as button_answer
-use Rattle.rules.specs.declared.AxisAnswer.TheVariants as axis_answer
-use Rattle.rules.specs.declared.NumberAnswer.TheVariants as number_answer
 use Rattle.rules.specs.Names.{code_left, dpad_left}
 use Rattle.rules.specs.Queries.{pressed_by_code, pressed_by_name, connected_of, value_by_code, value_by_name, threshold_by_code, button_by_code, button_by_name, axis_by_code, axis_by_name, name_by_code, code_by_name}
 use Rattle.rules.specs.Examples.Table.{◌is◌, Right, event, half32}
 use Rattle.rules.specs.Examples.Desk.{desk, south, plain, stick_x, trigger, hat_x, given}
+use Rattle.rules.specs.Refusals.{numbered}
 
 -- South and the unnamed button are pressed, and Left; LeftStickX stands at -1.0; and South's code has an axis record too, of 0.5
 busy : Hub
@@ -29,20 +25,20 @@ busy =
 -- South, the unnamed 0x131 as East, Left, West that nothing has; LeftTrigger2 is an element's name, and its record is absent
 presses :
     Right (
-    pressed_by_code busy 0 south is truth_answer.Is true
-    ∷ pressed_by_code busy 0 code_left is truth_answer.Is true
-    ∷ pressed_by_code busy 0 0x00010132 is truth_answer.Is false
-    ∷ pressed_by_code busy 1 south is truth_answer.Refused 6
-    ∷ pressed_by_name busy 0 1 is truth_answer.Is true
-    ∷ pressed_by_name busy 0 2 is truth_answer.Is true
-    ∷ pressed_by_name busy 0 dpad_left is truth_answer.Is true
-    ∷ pressed_by_name busy 0 4 is truth_answer.Is false
-    ∷ pressed_by_name busy 0 8 is truth_answer.Is false
-    ∷ pressed_by_name busy 0 0 is truth_answer.Refused 16
-    ∷ pressed_by_name busy 0 33 is truth_answer.Refused 16
-    ∷ pressed_by_name busy 1 0 is truth_answer.Refused 6
-    ∷ connected_of busy 0 is truth_answer.Is true
-    ∷ connected_of busy 1 is truth_answer.Refused 6
+    pressed_by_code busy 0 south is Ok true
+    ∷ pressed_by_code busy 0 code_left is Ok true
+    ∷ pressed_by_code busy 0 0x00010132 is Ok false
+    ∷ pressed_by_code busy 1 south is Err (numbered 6)
+    ∷ pressed_by_name busy 0 1 is Ok true
+    ∷ pressed_by_name busy 0 2 is Ok true
+    ∷ pressed_by_name busy 0 dpad_left is Ok true
+    ∷ pressed_by_name busy 0 4 is Ok false
+    ∷ pressed_by_name busy 0 8 is Ok false
+    ∷ pressed_by_name busy 0 0 is Err (numbered 16)
+    ∷ pressed_by_name busy 0 33 is Err (numbered 16)
+    ∷ pressed_by_name busy 1 0 is Err (numbered 6)
+    ∷ connected_of busy 0 is Ok true
+    ∷ connected_of busy 1 is Err (numbered 6)
     ∷ [])
 unfolding busy desk given pressed_by_code pressed_by_name connected_of
 presses = refl
@@ -51,17 +47,17 @@ presses = refl
 
 values :
     Right (
-    value_by_code busy 0 south is value_answer.Value half32
-    ∷ value_by_code busy 0 plain is value_answer.Value one32
-    ∷ value_by_code busy 0 stick_x is value_answer.Value minus_one32
-    ∷ value_by_code busy 0 0x00010132 is value_answer.Value zero32
-    ∷ value_by_code busy 1 south is value_answer.Refused 6
-    ∷ value_by_name busy 0 33 is value_answer.Value minus_one32
-    ∷ value_by_name busy 0 34 is value_answer.Value zero32
-    ∷ value_by_name busy 0 40 is value_answer.Value zero32
-    ∷ value_by_name busy 0 1 is value_answer.Refused 16
-    ∷ value_by_name busy 0 32 is value_answer.Refused 16
-    ∷ value_by_name busy 1 32 is value_answer.Refused 6
+    value_by_code busy 0 south is Ok (Some half32)
+    ∷ value_by_code busy 0 plain is Ok (Some one32)
+    ∷ value_by_code busy 0 stick_x is Ok (Some minus_one32)
+    ∷ value_by_code busy 0 0x00010132 is Ok (Some zero32)
+    ∷ value_by_code busy 1 south is Err (numbered 6)
+    ∷ value_by_name busy 0 33 is Ok (Some minus_one32)
+    ∷ value_by_name busy 0 34 is Ok (Some zero32)
+    ∷ value_by_name busy 0 40 is Ok (Some zero32)
+    ∷ value_by_name busy 0 1 is Err (numbered 16)
+    ∷ value_by_name busy 0 32 is Err (numbered 16)
+    ∷ value_by_name busy 1 32 is Err (numbered 6)
     ∷ [])
 unfolding busy desk given value_by_code value_by_name
 values = refl
@@ -69,11 +65,11 @@ values = refl
 -- "Axis elements only: deadzone / (max - min) * 2"
 thresholds :
     Right (
-    threshold_by_code busy 0 stick_x is value_answer.Value half32
-    ∷ threshold_by_code busy 0 hat_x is value_answer.Value zero32
-    ∷ threshold_by_code busy 0 south is value_answer.Absent
-    ∷ threshold_by_code busy 0 code_left is value_answer.Absent
-    ∷ threshold_by_code busy 1 stick_x is value_answer.Refused 6
+    threshold_by_code busy 0 stick_x is Ok (Some half32)
+    ∷ threshold_by_code busy 0 hat_x is Ok (Some zero32)
+    ∷ threshold_by_code busy 0 south is Ok None
+    ∷ threshold_by_code busy 0 code_left is Ok None
+    ∷ threshold_by_code busy 1 stick_x is Err (numbered 6)
     ∷ [])
 unfolding busy desk given threshold_by_code
 thresholds = refl
@@ -82,27 +78,27 @@ thresholds = refl
 
 buttons :
     Right (
-    button_by_code busy 0 plain is button_answer.Data (record { value = one32; stamp = 6; counter = 0; pressed = true; repeating = false; since = 6 })
-    ∷ button_by_code busy 0 trigger is button_answer.Absent
-    ∷ button_by_code busy 0 0x00010132 is button_answer.Absent
-    ∷ button_by_code busy 1 plain is button_answer.Refused 6
-    ∷ button_by_name busy 0 1 is button_answer.Data (record { value = one32; stamp = 5; counter = 0; pressed = true; repeating = false; since = 5 })
-    ∷ button_by_name busy 0 2 is button_answer.Absent
-    ∷ button_by_name busy 0 8 is button_answer.Absent
-    ∷ button_by_name busy 0 33 is button_answer.Refused 16
+    button_by_code busy 0 plain is Ok (Some (record { value = one32; stamp = 6; counter = 0; pressed = true; repeating = false; since = 6 }))
+    ∷ button_by_code busy 0 trigger is Ok None
+    ∷ button_by_code busy 0 0x00010132 is Ok None
+    ∷ button_by_code busy 1 plain is Err (numbered 6)
+    ∷ button_by_name busy 0 1 is Ok (Some (record { value = one32; stamp = 5; counter = 0; pressed = true; repeating = false; since = 5 }))
+    ∷ button_by_name busy 0 2 is Ok None
+    ∷ button_by_name busy 0 8 is Ok None
+    ∷ button_by_name busy 0 33 is Err (numbered 16)
     ∷ [])
 unfolding busy desk given button_by_code button_by_name
 buttons = refl
 
 axes :
     Right (
-    axis_by_code busy 0 south is axis_answer.Data (record { value = half32; stamp = 9; counter = 0 })
-    ∷ axis_by_code busy 0 plain is axis_answer.Absent
-    ∷ axis_by_code busy 1 south is axis_answer.Refused 6
-    ∷ axis_by_name busy 0 33 is axis_answer.Data (record { value = minus_one32; stamp = 8; counter = 0 })
-    ∷ axis_by_name busy 0 39 is axis_answer.Absent
-    ∷ axis_by_name busy 0 40 is axis_answer.Absent
-    ∷ axis_by_name busy 0 1 is axis_answer.Refused 16
+    axis_by_code busy 0 south is Ok (Some (record { value = half32; stamp = 9; counter = 0 }))
+    ∷ axis_by_code busy 0 plain is Ok None
+    ∷ axis_by_code busy 1 south is Err (numbered 6)
+    ∷ axis_by_name busy 0 33 is Ok (Some (record { value = minus_one32; stamp = 8; counter = 0 }))
+    ∷ axis_by_name busy 0 39 is Ok None
+    ∷ axis_by_name busy 0 40 is Ok None
+    ∷ axis_by_name busy 0 1 is Err (numbered 16)
     ∷ [])
 unfolding busy desk given axis_by_code axis_by_name
 axes = refl
@@ -111,14 +107,14 @@ axes = refl
 
 numbers :
     Right (
-    name_by_code busy 0 trigger is number_answer.Number 8
-    ∷ name_by_code busy 0 plain is number_answer.Absent
-    ∷ name_by_code busy 0 code_left is number_answer.Absent
-    ∷ name_by_code busy 1 trigger is number_answer.Refused 6
-    ∷ code_by_name busy 0 8 is number_answer.Number trigger
-    ∷ code_by_name busy 0 39 is number_answer.Number hat_x
-    ∷ code_by_name busy 0 2 is number_answer.Absent
-    ∷ code_by_name busy 0 255 is number_answer.Refused 16
+    name_by_code busy 0 trigger is Ok (Some 8)
+    ∷ name_by_code busy 0 plain is Ok None
+    ∷ name_by_code busy 0 code_left is Ok None
+    ∷ name_by_code busy 1 trigger is Err (numbered 6)
+    ∷ code_by_name busy 0 8 is Ok (Some trigger)
+    ∷ code_by_name busy 0 39 is Ok (Some hat_x)
+    ∷ code_by_name busy 0 2 is Ok None
+    ∷ code_by_name busy 0 255 is Err (numbered 16)
     ∷ [])
 unfolding busy desk given name_by_code code_by_name
 numbers = refl

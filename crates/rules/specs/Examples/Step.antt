@@ -1,5 +1,5 @@
 -- Steps, as pumps of a few records: what is taken, filtered, queued and stored; Connected and Disconnected.
-use Rattle.std.specs.Prelude.{ℕ, zero, suc, ◌+◌, ◌≡◌, refl, Bool, true, false, List, [], ◌∷◌, ◌++◌, get_or, replicate, pos, negsuc}
+use Rattle.std.specs.Prelude.{ℕ, zero, suc, ◌+◌, ◌≡◌, refl, Bool, true, false, List, [], ◌∷◌, ◌++◌, get_or, replicate, pos, negsuc, None, Ok, Some}
 use Rattle.std.specs.Float.{binary32}
 use Rattle.std.specs.Float.Ieee.{of_bits}
 use Rattle.numbers.specs.Constants.{zero32, one32, minus_one32}
@@ -7,16 +7,12 @@ use Rattle.rules.specs.declared.Hub.{Hub}
 use Rattle.rules.specs.declared.SheetElement.{SheetElement}
 use Rattle.rules.specs.declared.EventType.TheVariants.{Pressed, Changed, Axis, Disconnected, Dropped}
 use Rattle.rules.specs.declared.PumpAnswer.TheVariants.{Drained}
-use Rattle.rules.specs.declared.TruthAnswer.TheVariants as truth_answer
-use Rattle.rules.specs.declared.ButtonAnswer.TheVariants as button_answer
-use Rattle.rules.specs.declared.AxisAnswer.TheVariants as axis_answer
 use Rattle.rules.specs.Names.{code_up, code_right, dpad_right, dpad_x}
 use Rattle.rules.specs.Sheets.{sheet_bytes}
 use Rattle.rules.specs.Calls.{register_as, register_of, insert_of, inc_of, rename_of}
 use Rattle.rules.specs.Hub.{converts_in, converts_now, hats_now, has_button_at, has_axis_at}
 use Rattle.rules.specs.Step.{head_after}
 use Rattle.rules.specs.Queries.{pressed_by_code, connected_of, button_by_code, axis_by_code, name_by_code}
-use Rattle.rules.specs.declared.NumberAnswer.TheVariants as number_answer
 use Rattle.rules.specs.Examples.Table.{◌is◌, Right, button, axis, event, half32, three_quarters32}
 use Rattle.rules.specs.Examples.Desk.{bare, desk, two_pads, south, plain, stick_x, stick_y, trigger, hat_x, raw, press, move, connect, disconnect, pump, after, given, tells, told, events_bytes}
 
@@ -81,17 +77,17 @@ hat-button = refl
 
 -- a record keeps the counter of its event's step, and its time
 counted : button_by_code (after (inc_of (inc_of (desk true true))) (press south 7)) 0 south
-    ≡ button_answer.Data (record { value = one32; stamp = 7; counter = 2; pressed = true; repeating = false; since = 7 })
+    ≡ Ok (Some (record { value = one32; stamp = 7; counter = 2; pressed = true; repeating = false; since = 7 }))
 unfolding after desk raw inc_of button_by_code
 counted = refl
 
 -- with updates off nothing is stored
-unstored : button_by_code (after (desk true false) (press south 7)) 0 south ≡ button_answer.Absent
+unstored : button_by_code (after (desk true false) (press south 7)) 0 south ≡ Ok None
 unfolding after desk raw button_by_code
 unstored = refl
 
 -- while something waits, no record is looked at: Disconnected stands behind South's two events, and two steps do not reach it
-not-looked-at : connected_of (pump (desk true true) (press south 5 ++ disconnect 6) 0 (replicate 44 0) 2).pumped.hub 0 ≡ truth_answer.Is true
+not-looked-at : connected_of (pump (desk true true) (press south 5 ++ disconnect 6) 0 (replicate 44 0) 2).pumped.hub 0 ≡ Ok true
 unfolding pump desk raw connected_of
 not-looked-at = refl
 
@@ -112,7 +108,7 @@ unfolding inserted tells told desk insert_of events_bytes
 inserted-dropped = refl
 
 -- Disconnected that was inserted does not disconnect: the flag follows taken records
-inserted-disconnected : connected_of (after (insert_of (desk true true) (events_bytes (event 7 Disconnected ∷ []))).hub []) 0 ≡ truth_answer.Is true
+inserted-disconnected : connected_of (after (insert_of (desk true true) (events_bytes (event 7 Disconnected ∷ []))).hub []) 0 ≡ Ok true
 unfolding after desk insert_of events_bytes connected_of
 inserted-disconnected = refl
 
@@ -128,7 +124,7 @@ unfolding tells told desk raw
 parting = refl
 
 -- "connected but from a taken Disconnected record to the next Connected"
-parted-reads : Right (pressed_by_code parted 0 south is truth_answer.Is true ∷ connected_of parted 0 is truth_answer.Is false ∷ [])
+parted-reads : Right (pressed_by_code parted 0 south is Ok true ∷ connected_of parted 0 is Ok false ∷ [])
 unfolding parted given after desk raw pressed_by_code connected_of
 parted-reads = refl
 
@@ -138,15 +134,15 @@ parted-reads = refl
 joined : Hub
 joined = after (given (desk true true) (event 5 (Pressed 1 south) ∷ event 6 (Axis 33 stick_x one32) ∷ [])) (disconnect 7 ++ connect 8)
 
-joined-reads : Right (pressed_by_code joined 0 south is truth_answer.Is false ∷ connected_of joined 0 is truth_answer.Is true ∷ [])
+joined-reads : Right (pressed_by_code joined 0 south is Ok false ∷ connected_of joined 0 is Ok true ∷ [])
 unfolding joined given after desk raw pressed_by_code connected_of
 joined-reads = refl
 
-joined-button : button_by_code joined 0 south ≡ button_answer.Absent
+joined-button : button_by_code joined 0 south ≡ Ok None
 unfolding joined given after desk raw button_by_code
 joined-button = refl
 
-joined-axis : axis_by_code joined 0 stick_x ≡ axis_answer.Absent
+joined-axis : axis_by_code joined 0 stick_x ≡ Ok None
 unfolding joined given after desk raw axis_by_code
 joined-axis = refl
 
@@ -163,7 +159,7 @@ flags = refl
 pressed_both : Hub
 pressed_both = after (given two_pads (record { pad = 1; time = 5; event = Pressed 1 south } ∷ event 5 (Pressed 1 south) ∷ [])) (connect 7)
 
-other-pad : Right (pressed_by_code pressed_both 1 south is truth_answer.Is true ∷ pressed_by_code pressed_both 0 south is truth_answer.Is false ∷ [])
+other-pad : Right (pressed_by_code pressed_both 1 south is Ok true ∷ pressed_by_code pressed_both 0 south is Ok false ∷ [])
 unfolding pressed_both given two_pads after raw pressed_by_code
 other-pad = refl
 
@@ -224,9 +220,9 @@ hats = refl
 
 names :
     Right (
-    name_by_code renamed 0 hat_x is number_answer.Number 40
-    ∷ name_by_code (after renamed (disconnect 7)) 0 hat_x is number_answer.Number 40
-    ∷ name_by_code (after renamed (connect 7)) 0 hat_x is number_answer.Number 39
+    name_by_code renamed 0 hat_x is Ok (Some 40)
+    ∷ name_by_code (after renamed (disconnect 7)) 0 hat_x is Ok (Some 40)
+    ∷ name_by_code (after renamed (connect 7)) 0 hat_x is Ok (Some 39)
     ∷ [])
 unfolding hatted renamed bare register_as sheet_bytes rename_of after raw name_by_code
 names = refl

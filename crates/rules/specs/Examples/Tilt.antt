@@ -4,10 +4,10 @@ use Rattle.std.specs.Float.Ieee as Ieee
 use Rattle.numbers.specs.declared.Tilt.{Tilt}
 use Rattle.numbers.specs.declared.Tilt.TheVariants.{Unmet, Inside, Between, Full}
 use Rattle.rules.specs.declared.Hub.{Hub}
-use Rattle.rules.specs.declared.PumpAnswer.TheVariants.{Drained, Refused}
-use Rattle.rules.specs.Tilt.{latest, pump_tilt}
+use Rattle.rules.specs.declared.PumpAnswer.TheVariants.{Drained}
+use Rattle.rules.specs.Tilt.{pump_tilt}
 use Rattle.rules.specs.Examples.Table.{◌is◌, Right}
-use Rattle.rules.specs.Examples.Desk.{desk, stick_x, stick_y, trigger, hat_x, south, plain, raw, press, move, disconnect, pumped, pump, after}
+use Rattle.rules.specs.Examples.Desk.{desk, stick_x, stick_y, trigger, hat_x, south, raw, press, move, disconnect, pumped, pump, after}
 
 -- the report, its arithmetic open
 report : Hub → List ℕ → ℕ → List ℕ → ℕ → Tilt

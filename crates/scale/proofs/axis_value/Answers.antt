@@ -3,16 +3,13 @@ use Rattle.std.specs.Prelude.{◌≡◌, refl}
 use Rattle.std.specs.Float.Ieee.{neg, of_bits}
 use Rattle.numbers.specs.Constants.{one32, minus_one32}
 use Rattle.numbers.specs.Scale.{axis_scaled_of}
-use Rattle.scale.specs.Casts.{cast_fits, cast_is}
+use Rattle.scale.specs.Casts.{cast_is}
 use Rattle.scale.proofs.axis_value.Goals as goal
 
 -- the code's -1.0 is 1.0 with its sign turned
 minus_one : neg one32 ≡ minus_one32
 unfolding neg of_bits
 minus_one = refl
-
-pub int_to_float-raw : goal.int_to_float-raw
-int_to_float-raw c = cast_fits c.args.raw c.requires
 
 pub returns : goal.returns
 unfolding axis_scaled_of

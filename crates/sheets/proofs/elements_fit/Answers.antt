@@ -1,41 +1,26 @@
--- `sheets::elements_fit` meets its contract: the two tests of an element decide what is left of the scan, by the law of scans.
-use Rattle.std.proofs.Common.{◌≡◌, sym, ◌∙◌, ap, arith, ◌<◌, ◌≤◌, true}
-use Rattle.rules.specs.Sheets.{element_of, element_fits, elements_fit}
-use Rattle.sheets.proofs.Scans.{element_test, elements-none, elements-more, all_more, all-stop, all_end}
+-- `sheets::elements_fit` meets its contract: the definition says what `all` says of the numbers below the count.
+use Rattle.std.proofs.Common.{◌≡◌, refl, ap, ◌∙◌, rules, tests, arith, Bool, true, false, ◌&&◌, List, ℕ, zero, suc, ◌+◌}
+use Rattle.std.specs.List.{list_all, range_with_len}
+use Rattle.std.proofs.lemmas.Iterator.{YieldsList-from_range}
+use Rattle.std.proofs.lemmas.Iterator.Search.{all_from_yields_List}
+use Rattle.rules.specs.Sheets.{element_of, element_fits, rises, elements_fit}
 use Rattle.sheets.proofs.elements_fit.Goals as goal
 
-pub returns-then-not-element_fits : goal.returns-then-not-element_fits
-returns-then-not-element_fits c =
-    let s = c.args.s.now in
-    let l = c.loop-i in
-    let h : l.i < c.args.count = omega arith in
-    all-stop (elements_fit s) (element_test s) (elements-none s) (elements-more s) c.args.count l.i h
-    (rw (ap element_fits (sym c.element.ensures) ∙ sym c.element_fits.ensures ∙ c.if-not-element_fits.true)) ∙ l.invariant.1
+both : (a b c d : Bool) → c ≡ d → (a && b) && c ≡ a && (b && d)
+both true b c d e = ap (λ (x : Bool). b && x) e
+both false b c d e = refl
 
-pub returns-then-not-rises_at : goal.returns-then-not-rises_at
-returns-then-not-rises_at c =
-    let s = c.args.s.now in
-    let l = c.loop-i in
-    let h : l.i < c.args.count = omega arith in
-    let fits : element_fits (element_of s l.i) ≡ true =
-    ap element_fits (sym c.element.ensures) ∙ sym c.element_fits.ensures ∙ c.if-not-element_fits.false in
-    all-stop (elements_fit s) (element_test s) (elements-none s) (elements-more s) c.args.count l.i h
-    (rw (fits, sym c.rises_at.ensures ∙ c.if-not-rises_at.true)) ∙ l.invariant.1
+module _ (s : List ℕ) where
+  abbrev fits : ℕ → Bool
+  fits i = element_fits (element_of s i) && rises s i
 
-pub loop-i-preserved : goal.loop-i-preserved
-loop-i-preserved c =
-    let s = c.args.s.now in
-    let l = c.loop-i in
-    let h : l.i < c.args.count = omega arith in
-    let fits : element_fits (element_of s l.i) ≡ true =
-    ap element_fits (sym c.element.ensures) ∙ sym c.element_fits.ensures ∙ c.if-not-element_fits.false in (
-      omega arith,
-      all_more (elements_fit s) (element_test s) (elements-none s) (elements-more s) c.args.count l.i h
-          (rw (fits, sym c.rises_at.ensures ∙ c.if-not-rises_at.false)) ∙ l.invariant.1,
-    )
+  scanned : (n i : ℕ) → list_all fits (range_with_len i n) ≡ elements_fit s n i
+  unfolding elements_fit
+  scanned zero i = refl
+  scanned (suc n) i = both (element_fits (element_of s i)) (rises s i) _ _ (scanned n (i + 1))
 
 pub returns : goal.returns
 returns c =
-    let s = c.args.s.now in
-    let h : c.args.count ≤ c.loop-i.i = omega arith in
-    all_end (elements_fit s) (element_test s) (elements-none s) (elements-more s) c.args.count c.loop-i.i h ∙ c.loop-i.invariant.1
+    all_from_yields_List (fits c.args.s.now) _ _ _ c.all.ensures.ran
+    (YieldsList-from_range 0 c.args.count c.args.count (cc) (omega arith)) (λ x b q k. search (rules, tests))
+    ∙ scanned c.args.s.now c.args.count 0

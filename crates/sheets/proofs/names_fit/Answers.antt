@@ -1,29 +1,22 @@
--- `sheets::names_fit` meets its contract: the name that is read decides what is left of the scan, by the law of scans.
-use Rattle.std.proofs.Common.{sym, ◌∙◌, arith, ◌<◌, ◌≤◌, length}
+-- `sheets::names_fit` meets its contract: the definition says what `all` says of the names.
+use Rattle.std.proofs.Common.{◌≡◌, refl, ◌∙◌, rules, tests, arith, List, ℕ, zero, suc, ◌+◌, length, drop}
+use Rattle.std.specs.List.{list_all}
+use Rattle.std.proofs.Math.Seq.{drop-length}
+use Rattle.std.proofs.lemmas.List.{drop_more}
+use Rattle.std.proofs.lemmas.Iterator.{YieldsList-from_slice}
+use Rattle.std.proofs.lemmas.Iterator.Search.{all_from_yields_List}
+use Rattle.rules.specs.Names.{name_allowed}
 use Rattle.rules.specs.Sheets.{names_fit}
-use Rattle.sheets.proofs.Scans.{name_test, names-none, names_more, all_more, all-stop, all_end}
 use Rattle.sheets.proofs.names_fit.Goals as goal
 
-pub returns-then-not-name_allowed : goal.returns-then-not-name_allowed
-returns-then-not-name_allowed c =
-    let s = c.args.s.now in
-    let l = c.loop-i in
-    let h : l.i < length s = omega arith in
-    all-stop (names_fit s) (name_test s) (names-none s) (names_more s) (length s) l.i h
-    (sym c.name_allowed.ensures ∙ c.if-not-name_allowed.true) ∙ l.invariant.1
-
-pub loop-i-preserved : goal.loop-i-preserved
-loop-i-preserved c =
-    let s = c.args.s.now in
-    let l = c.loop-i in
-    let h : l.i < length s = omega arith in (
-      omega arith,
-      all_more (names_fit s) (name_test s) (names-none s) (names_more s) (length s) l.i h
-          (sym c.name_allowed.ensures ∙ c.if-not-name_allowed.false) ∙ l.invariant.1,
-    )
+module _ (s : List ℕ) where
+  scanned : (n i : ℕ) → i + n ≡ length s → list_all name_allowed (drop i s) ≡ names_fit s n i
+  unfolding names_fit
+  scanned zero i h = let e : i ≡ length s = omega arith in rw (e, drop-length s) refl
+  scanned (suc n) i h = rw (drop_more s i 0 (omega arith), scanned n (i + 1) (omega arith)) refl
 
 pub returns : goal.returns
 returns c =
-    let s = c.args.s.now in
-    let h : length s ≤ c.loop-i.i = omega arith in
-    all_end (names_fit s) (name_test s) (names-none s) (names_more s) (length s) c.loop-i.i h ∙ c.loop-i.invariant.1
+    all_from_yields_List name_allowed _ _ _ c.all.ensures.ran
+    (YieldsList-from_slice c.args.s.now (cc)) (λ x b q k. search (rules, tests))
+    ∙ scanned c.args.s.now (length c.args.s.now) 0 (omega arith)

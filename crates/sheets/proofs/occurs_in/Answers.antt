@@ -1,33 +1,23 @@
--- `sheets::occurs_in` meets its contract: the name that is read decides what is left of the scan, by the law of scans.
-use Rattle.std.proofs.Common.{◌∙◌, arith, ◌<◌, ◌≤◌}
-use borrow.Author.Tests.{eq-eqb, ne_eqb}
-use Rattle.rules.specs.Sheets.{occurs_in}
-use Rattle.sheets.proofs.Scans.{same_test, in-none, in-more, any-more, any-stop, any-end}
+-- `sheets::occurs_in` meets its contract: the definition says what `any` says of the numbers from the first on.
+use Rattle.std.proofs.Common.{◌≡◌, refl, ap, ◌∙◌, rules, tests, Bool, ◌||◌, List, ℕ, zero, suc, ◌+◌, ◌*◌, eqb, get_or}
+use Rattle.std.specs.List.{list_any, range_with_len}
+use Rattle.std.proofs.lemmas.Iterator.{YieldsList-from_range}
+use Rattle.std.proofs.lemmas.Iterator.Search.{any_from_yields_List}
+use Rattle.rules.specs.Sheets.{occurs_in, name_at}
 use Rattle.sheets.proofs.occurs_in.Goals as goal
 
-pub returns-then-s-start : goal.returns-then-s-start
-returns-then-s-start c =
-    let a = c.args in
-    let s = a.s.now in
-    let l = c.loop-i in
-    let h : l.i < a.count = omega arith in
-    any-stop (occurs_in s a.start a.stride a.name) (same_test s a.start a.stride a.name)
-    (in-none s a.start a.stride a.name) (in-more s a.start a.stride a.name) a.count l.i h (eq-eqb _ _ c.if-s-start.true) ∙ l.invariant
+module _ (s : List ℕ) (start stride name : ℕ) where
+  abbrev is_name : ℕ → Bool
+  is_name i = eqb (get_or s (start + stride * i) 0) name
 
-pub loop-i-preserved : goal.loop-i-preserved
-loop-i-preserved c =
-    let a = c.args in
-    let s = a.s.now in
-    let l = c.loop-i in
-    let h : l.i < a.count = omega arith in
-    any-more (occurs_in s a.start a.stride a.name) (same_test s a.start a.stride a.name)
-    (in-none s a.start a.stride a.name) (in-more s a.start a.stride a.name) a.count l.i h (ne_eqb _ _ c.if-s-start.false) ∙ l.invariant
+  scanned : (n i : ℕ) → list_any is_name (range_with_len i n) ≡ occurs_in s start stride name n i
+  unfolding occurs_in name_at
+  scanned zero i = refl
+  scanned (suc n) i = ap (λ (b : Bool). is_name i || b) (scanned n (i + 1))
 
 pub returns : goal.returns
 returns c =
     let a = c.args in
-    let s = a.s.now in
-    let l = c.loop-i in
-    let h : a.count ≤ l.i = omega arith in
-    any-end (occurs_in s a.start a.stride a.name) (same_test s a.start a.stride a.name)
-    (in-none s a.start a.stride a.name) (in-more s a.start a.stride a.name) a.count l.i h ∙ l.invariant
+    any_from_yields_List (is_name a.s.now a.start a.stride a.name) _ _ _ c.any.ensures.ran
+    (YieldsList-from_range a.first a.count _ (cc) refl) (λ x b q k. search (rules, tests))
+    ∙ scanned a.s.now a.start a.stride a.name _ a.first

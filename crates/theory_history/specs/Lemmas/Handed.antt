@@ -1,6 +1,6 @@
 -- Demand 3: "each record hands out at most four events before the next is taken". A record's step brings at most three events beside the one that goes out, a step
 -- from the queue uses one of those up, and no call between the steps brings any. Pumps counts by it.
-use Rattle.std.specs.Prelude.{ℕ, ◌+◌, ◌<◌, zero, suc, ◌*◌, Bool, false, cond, ◌&&◌, List, ◌∷◌, ◌++◌, [], ◌≡◌, refl, eqb, ltb, get_or}
+use Rattle.std.specs.Prelude.{ℕ, ◌+◌, ◌<◌, zero, suc, ◌*◌, Bool, false, cond, ◌&&◌, List, ◌∷◌, ◌++◌, [], ◌≡◌, refl, eqb, ltb, get_or, None, Option, Some}
 use Rattle.std.proofs.Math.Bool.{true}
 use Rattle.std.proofs.Common.{sym, ◌∙◌, ltb-true}
 use Rattle.std.proofs.Math.Path.{ap, subst}
@@ -35,8 +35,6 @@ use Rattle.theory_history.specs.Lemmas.Tidy.{tidy}
 use Rattle.theory_history.specs.Lemmas.Tails.{Tail, Less, Flagged, next-tail, buttons, lone}
 use Rattle.theory_history.specs.Lemmas.Brings.{Few, brings}
 use Rattle.rules.specs.declared.EventForm.{EventForm}
-use Rattle.rules.specs.declared.EventRead.{EventRead}
-use Rattle.rules.specs.declared.EventRead.TheVariants as event_read
 use Rattle.rules.specs.Forms.{read_event}
 use Rattle.rules.specs.declared.EventType.TheVariants.{Axis}
 use Rattle.rules.specs.State.{next_counter}
@@ -172,9 +170,9 @@ pub update-still : (h : Hub) (bytes : List ℕ) (b : ℕ) → Still h b → Stil
 unfolding update_of
 update-still h bytes b t = read-still (read_event bytes)
   where
-    read-still : (r : EventRead) → Still (update_by r h).hub b
-    read-still (event_read.Form f) = form-tail (form_refusal f h.pads (form_place h f)) h f b t
-    read-still event_read.Malformed = t
+    read-still : (r : Option EventForm) → Still (update_by r h).hub b
+    read-still (Some f) = form-tail (form_refusal f h.pads (form_place h f)) h f b t
+    read-still None = t
 
 -- ---- whatever is played
 

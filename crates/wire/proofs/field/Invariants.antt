@@ -1,15 +1,11 @@
 -- The invariant: the number so far is the field of the bytes passed, below its power of 256.
-use Rattle.std.proofs.Common.{◌≡◌, ◌-◌, ◌≤◌, ◌<◌, ◌^◌}
+use Rattle.std.proofs.Common.{◌≡◌, ◌<◌, ◌^◌}
 use Rattle.rules.specs.Forms.{field_of}
 use Rattle.wire.proofs.field.Given as goal
 
-abbrev pub invariant-loop-i : goal.invariant-loop-i
-invariant-loop-i l =
+abbrev pub invariant-loop-byte : goal.invariant-loop-byte
+invariant-loop-byte l =
     record {
-      passed : l.i ≤ l.width;
-      is : l.x ≡ field_of l.s l.at l.i;
-      small : l.x < 256 ^ l.i;
+      is : l.x ≡ field_of l.s l.at l.byte-index;
+      small : l.x < 256 ^ l.byte-index;
     }
-
-abbrev pub decreases-loop-i : goal.decreases-loop-i
-decreases-loop-i l = l.width - l.i

@@ -1,5 +1,0 @@
--- `skip_all` ends: the measure is the number of turns that are left.
-use Rattle.padlog.proofs.skip_all.Given as goal
-
-abbrev pub decreases-loop-turns : goal.decreases-loop-turns
-decreases-loop-turns g l = l.turns
