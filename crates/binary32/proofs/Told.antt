@@ -1,16 +1,11 @@
 -- What the bits of an `f32` tell of its root. Owning the value tells that it is one of binary32, so its bits are a number of 32 digits, and they say what it is.
-use Rattle.std.specs.Prelude.{◌≡◌, refl, true, ◌%◌, ◌<◌, ◌≤◌, T, Float}
+use Rattle.std.specs.Prelude.{◌≡◌, true, ◌%◌, ◌<◌, ◌≤◌, T, Float}
 use Rattle.std.proofs.Common.{sym, ap, ◌∙◌, subst}
 use Rattle.std.specs.Float.{nan, inf, fin, binary32}
 use Rattle.std.specs.Float.Ieee.{to_bits, of_bits, is_nan, fits}
 use Rattle.std.specs.Float.Ieee.Bits.{of_bits-to_bits, to_bits-lt}
 use Rattle.numbers.specs.Root.{sqrt_of}
-use Rattle.binary32.specs.Patterns.{at-minus}
-
--- the library's NaN
-pub nan_value : of_bits binary32 0x7fc00000 ≡ nan
-unfolding of_bits
-nan_value = refl
+use Rattle.binary32.specs.Patterns.{nan_value, at-minus}
 
 pub the_nan : (x : Float) → is_nan x ≡ true → x ≡ nan
 unfolding is_nan

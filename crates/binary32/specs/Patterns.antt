@@ -170,7 +170,12 @@ packed-number k q h n =
     let l = n.high in
     subst (λ (b : Bool). T (not b)) (sym (nan_bits_above binary32 (k * 8388608 + q) ∙ le-ltb 2139095040 ((k * 8388608 + q) % 2147483648) (omega arith))) tt
 
--- what the code writes for `nan`
+-- what the code writes for `nan`: the library's NaN
+pub nan_value : of_bits binary32 0x7fc00000 ≡ nan
+unfolding of_bits
+nan_value = refl
+
+-- what a division of 0 by 0 gives
 pub no_number : div binary32 (of_bits binary32 0) (of_bits binary32 0) ≡ nan
 unfolding div of_bits
 no_number = refl

@@ -127,5 +127,5 @@ pub fn lowest(down: &[u64; 4], pad: u8) -> usize
     ensures { (result ≡ lowest_of (get_or down.now pad 0)) × (result ≤ places_per_pad) }
 {
     let zeros = pad::read(down, pad as usize, 0).trailing_zeros() as usize;
-    zeros.min(PLACES_PER_PAD)
+    choices::least(zeros, PLACES_PER_PAD)
 }

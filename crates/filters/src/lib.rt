@@ -9,7 +9,7 @@ ghost use Rattle.rules.specs.Filters as law;
 ghost use Rattle.filters.specs.Lanes.{zoned_value};
 ghost use Rattle.filters.specs.Meets.{without, zone_meets};
 
-use choices::chosen;
+use choices::{both, chosen};
 use numbers::{Pair, Tilt};
 use rules::{Event, EventType, Flags, View, Zoned};
 
@@ -73,7 +73,8 @@ fn clears_partner(v: View, pair: Pair) -> bool
 {
     let p = v.partner;
     let f = v.flags;
-    p.stands & (pair.x == 0.0) & (pair.y == 0.0) & f.partner & (p.value != 0.0)
+    let fell = both(pair.x == 0.0, pair.y == 0.0);
+    both(p.stands, both(fell, both(f.partner, p.value != 0.0)))
 }
 
 // an axis: the event with its value after the deadzone, the partner's clearing event, and the flags after
@@ -95,7 +96,7 @@ fn stick(v: View, e: Event, n: u8, c: u32, pair: Pair) -> Zoned
         flags: Flags {
             // whether a value other than 0 was sent last: as before where the event is dropped
             own: chosen(same, f.own, x != 0.0),
-            partner: f.partner & !clears,
+            partner: both(f.partner, !clears),
         },
     }
 }

@@ -1,5 +1,5 @@
 -- The rows of a sheet laid into lent arrays, from a place on: what they leave of the arrays, and one law for each row more.
-use Rattle.std.specs.Prelude.{ℕ, zero, suc, ◌+◌, ◌-◌, ◌<◌, Bool, List, [], ◌∷◌, map, ◌≡◌, refl, get_or, set, take, drop, Float}
+use Rattle.std.specs.Prelude.{ℕ, zero, suc, ◌+◌, ◌-◌, ◌≤◌, ◌<◌, Bool, List, [], ◌∷◌, map, ◌≡◌, refl, get_or, set, take, drop, Float}
 use Rattle.std.proofs.Common.{sym, ◌∙◌, add-zero, not-suc-le-zero, le_of_suc-le-suc, add-one, get_or-drop, drop-drop}
 use Rattle.std.proofs.Math.Path.{ap}
 use native.Mathlib.Omega.{arith}
@@ -73,20 +73,20 @@ module _ (cs ks ns : List ℕ) (vs : List Float) (ms : List Bool) (k : ℕ) wher
         slots = λ ts bytes codes. put.slots ts bytes codes ∙ before.slots ts bytes codes;
       }
 
--- ---- the rows that are left, with k of them laid
+-- ---- the rows that are left, with k of them laid, whatever they are: what the code goes by
 
 module _ {row : Row} {rest : List Row} (rows : List Row) (k : ℕ) (left : row ∷ rest ≡ drop k rows) where
-  pub row_inside : k < length rows
-  row_inside = omega (arith, ap length left, length-drop k rows)
+  pub first_inside : k < length rows
+  first_inside = omega (arith, ap length left, length-drop k rows)
 
-  pub row_is : row ≡ get_or rows k past_row
-  row_is = ap (λ (l : List Row). get_or l 0 past_row) left ∙ rw (get_or-drop k rows 0 past_row, add-zero k)
+  pub first_is : row ≡ get_or rows k past_row
+  first_is = ap (λ (l : List Row). get_or l 0 past_row) left ∙ rw (get_or-drop k rows 0 past_row, add-zero k)
 
-  pub rest-left : rest ≡ drop (k + 1) rows
-  rest-left = ap (drop 1) left ∙ drop-drop 1 k rows
+  pub others-left : rest ≡ drop (k + 1) rows
+  others-left = ap (drop 1) left ∙ drop-drop 1 k rows
 
-pub all_laid : (rows : List Row) (k : ℕ) → [] ≡ drop k rows → take k rows ≡ rows
-all_laid rows k left = take_all k rows (omega (arith, length-drop k rows, ap length left))
+pub none-left : (rows : List Row) (k : ℕ) → [] ≡ drop k rows → take k rows ≡ rows
+none-left rows k left = take_all k rows (omega (arith, length-drop k rows, ap length left))
 
 -- ---- the rows that are left, with k of the places laid
 
@@ -101,3 +101,23 @@ module _ (s : List ℕ) (n i d last : ℕ) (rows : List Row) (k : ℕ) (left : r
         let some : 0 < places_per_pad - k = omega arith in
         let less : places_per_pad - k - 1 ≡ places_per_pad - (k + 1) = omega arith in
         rw less at (sym (rows_next s n i d last (places_per_pad - k) some)) ∙ left
+
+    pub row_inside : k < length rows
+    row_inside = first_inside rows k first-left
+
+    pub row_is : next_row s n i d last ≡ get_or rows k past_row
+    row_is = first_is rows k first-left
+
+    pub rest-left :
+        {r : Row} {element direction : ℕ} →
+        r ≡ next_row s n i d last →
+        element ≡ one_if (element_next s n i d) →
+        direction ≡ one_if (direction_next s n i d) →
+        rows_from (places_per_pad - (k + 1)) s n (i + element) (d + direction) r.code ≡ drop (k + 1) rows
+    rest-left is_row is-element is-direction = rw (is_row, is-element, is-direction) (others-left rows k first-left)
+
+  pub all_laid : places_per_pad ≤ k → take k rows ≡ rows
+  unfolding rows_from
+  all_laid past =
+      let none : places_per_pad - k ≡ 0 = omega arith in
+      none-left rows k (rw none at left)

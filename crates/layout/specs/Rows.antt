@@ -38,15 +38,15 @@ module _ (s : List ℕ) (n i d : ℕ) where
   unfolding direction_next
   direction-inside next = inside d directions (ltb d directions) (leb n i || leb (code_up + d) (element_of s i).code) refl next
 
--- ---- rows laid
+-- ---- rows laid, whatever they are: what the code goes by
 
 -- after the k-th row is laid, what is laid and what is left give what they gave before
-pub laid_next : (rows rest : List Row) (row : Row) (k : ℕ) → k < length rows → take (k + 1) (set rows k row) ++ rest ≡ take k rows ++ (row ∷ rest)
-laid_next rows rest row k short = rw (add-one k, take-suc-set rows k row short) (append_snoc (take k rows) row rest)
+pub row_laid : (rows rest : List Row) (row : Row) (k : ℕ) → k < length rows → take (k + 1) (set rows k row) ++ rest ≡ take k rows ++ (row ∷ rest)
+row_laid rows rest row k short = rw (add-one k, take-suc-set rows k row short) (append_snoc (take k rows) row rest)
 
 -- all are laid
-pub laid-all : (rows rest : List Row) (k : ℕ) → length rows ≤ k → rest ≡ [] → rows ≡ take k rows ++ rest
-laid-all rows rest k past none = rw (none, take_all k rows past) (sym (append-nil rows))
+pub rows-laid : (rows rest : List Row) (k : ℕ) → length rows ≤ k → rest ≡ [] → rows ≡ take k rows ++ rest
+rows-laid rows rest k past none = rw (none, take_all k rows past) (sym (append-nil rows))
 
 -- ---- a place more
 
@@ -63,13 +63,13 @@ module _ (s : List ℕ) (n i d last : ℕ) where
   rows_next (suc left) some = rw sub-one
 
   -- after the k-th place is laid, what is laid and what is left give what they gave before
-  laid_place : (rows : List Row) (k : ℕ) → k < places_per_pad → length rows ≡ places_per_pad
+  pub laid_next : (rows : List Row) (k : ℕ) → k < places_per_pad → length rows ≡ places_per_pad
       → take (k + 1) (set rows k row) ++ rest (places_per_pad - (k + 1)) ≡ take k rows ++ rows_from (places_per_pad - k) s n i d last
-  laid_place rows k short long =
+  laid_next rows k short long =
       let inside-rows : k < length rows = omega arith in
       let some : 0 < places_per_pad - k = omega arith in
       let less : places_per_pad - k - 1 ≡ places_per_pad - (k + 1) = omega arith in
-      rw (rows_next (places_per_pad - k) some, less) (laid_next rows (rest (places_per_pad - (k + 1))) row k inside-rows)
+      rw (rows_next (places_per_pad - k) some, less) (row_laid rows (rest (places_per_pad - (k + 1))) row k inside-rows)
 
   -- the same of the row, the numbers of elements and of directions that the code has
   pub laid-step : (r : Row) (element direction : ℕ) (rows whole : List Row) (k : ℕ) → r ≡ row → element ≡ one_if (element_next s n i d)
@@ -77,4 +77,12 @@ module _ (s : List ℕ) (n i d last : ℕ) where
       → take k rows ++ rows_from (places_per_pad - k) s n i d last ≡ whole
       → take (k + 1) (set rows k r) ++ rows_from (places_per_pad - (k + 1)) s n (i + element) (d + direction) r.code ≡ whole
   laid-step r element direction rows whole k is_row is-element is-direction short long before =
-      rw (is_row, is-element, is-direction) (laid_place rows k short long ∙ before)
+      rw (is_row, is-element, is-direction) (laid_next rows k short long ∙ before)
+
+-- all are laid
+pub laid-all : (s : List ℕ) (n i d last : ℕ) (rows : List Row) (k : ℕ) → places_per_pad ≤ k → length rows ≡ places_per_pad
+    → rows ≡ take k rows ++ rows_from (places_per_pad - k) s n i d last
+unfolding rows_from
+laid-all s n i d last rows k past long =
+    let none : places_per_pad - k ≡ 0 = omega arith in
+    rows-laid rows (rows_from (places_per_pad - k) s n i d last) k (omega arith) (rw none refl)

@@ -260,9 +260,11 @@ pub fn set_pad(numbers: &mut [u8; 4], pad: u8, v: u8)
 fn clear_in(marks: &mut [bool], start: usize, n: usize)
     ensures { marks.new ≡ cleared_of marks.old start n }
 {
-    let end = marks.len().min(start.saturating_add(n));
-    for at in start..end {
-        marks[at] = false;
+    if start < marks.len() {
+        let end = start + n.min(marks.len() - start);
+        for mark in &mut marks[start..end] {
+            *mark = false;
+        }
     }
 }
 

@@ -24,7 +24,7 @@ pub fn mark_joins(
     if kind < KIND_CONNECTED {
         return;
     }
-    let q = usize::from(p);
+    let q = choices::wide(p);
     let marks = turn::marks_cleared(kind, PLACES_PER_PAD);
     let runs = turn::marks_cleared(kind, FLAGS_PER_PAD);
     turn::connect(connected, p, kind);

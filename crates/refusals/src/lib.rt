@@ -62,7 +62,7 @@ pub fn first(a: u8, b: u8) -> u8
 fn in_unit(x: f32) -> bool
     ensures { result ≡ in_unit x }
 {
-    0.0 <= x && x <= 1.0
+    choices::both(0.0 <= x, x <= 1.0)
 }
 
 // 1: thresholds of `new` that do not lie in 0..1 with released below pressed.
@@ -83,7 +83,7 @@ pub fn thresholds_refusal(pressed: f32, released: f32) -> Result<(), Refusal>
 pub fn is_registered(pads: u8, p: u8) -> bool
     ensures { result ≡ is_registered pads p }
 {
-    p < pads && p < PADS
+    choices::both(p < pads, p < PADS)
 }
 
 // ---- 11 and 12
@@ -216,7 +216,7 @@ pub fn insert_refusal(f: EventForm, pads: u8, place: usize, waiting: u8) -> Resu
 pub fn pump_refusal(batch: usize, out: usize, place: usize) -> u8
     ensures { result ≡ pump_refusal batch out place }
 {
-    if BUFFER_LIMIT < batch || BUFFER_LIMIT < out {
+    if choices::either(BUFFER_LIMIT < batch, BUFFER_LIMIT < out) {
         14
     } else {
         unless_fits(place <= batch, 8)
@@ -243,7 +243,7 @@ pub fn partial_hats(hats: u8) -> bool
     ensures { result ≡ partial_of hats }
 {
     let low = hats % (LAST_HATS + 1);
-    0 < low && low < LAST_HATS
+    choices::both(0 < low, low < LAST_HATS)
 }
 
 // 29: partial hats, but for an archived sheet.
@@ -294,6 +294,6 @@ pub fn name_query_refusal(pads: u8, p: u8, name: u8) -> Result<(), Refusal>
     named_refusal(
         pads,
         p,
-        names::names_button(name) || names::names_axis(name),
+        choices::either(names::names_button(name), names::names_axis(name)),
     )
 }

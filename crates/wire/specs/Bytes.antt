@@ -36,7 +36,7 @@ bytes-swapped (suc w) x =
     let lowest : (swapped_of w x * 256 + b) / 1 % 256 ≡ b = rw div-one (omega arith) in
     rw (lowest, above w 1 (swapped_of w x) b small, bytes-swapped w x)
 
--- ---- an event's bytes, told by its swapped numbers
+-- ---- an event's bytes, as the code has them: its numbers swapped
 
 abbrev pub upper_four : ℕ → List ℕ
 upper_four y = y / 0x100000000 % 256 ∷ y / 0x10000000000 % 256 ∷ y / 0x1000000000000 % 256 ∷ y / 0x100000000000000 % 256 ∷ []

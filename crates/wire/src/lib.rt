@@ -5,6 +5,7 @@ ghost use Rattle.std.specs.Prelude.{◌≡◌, ◌++◌, ◌+◌, ◌≤◌, ◌
 ghost use Rattle.rules.specs.Forms.{field_of, signed_of, opens, record_kind_fits, read_record, name_fits, event_kind_fits, read_event, form_bytes};
 ghost use Rattle.rules.specs.Events.{event_bytes};
 ghost use Rattle.rules.specs.Step.{next_record_of};
+ghost use Rattle.wire.specs.Bytes.{swapped_of, laid_out};
 
 use events::{EVENT_CHANGED, EVENT_DROPPED, EVENT_PRESSED};
 use rules::{
@@ -182,18 +183,26 @@ pub fn read_event(s: &[u8]) -> Option<EventForm>
 
 // ---- an event written
 
-// One event at the start of the part that is lent; the bytes after it stay. The pump lends "the out buffer's part starting at 22 times the
-// events already written". The compiler makes of each number's line one instruction that turns its bytes round and one store.
-#[tactic(auto, unfolding(rules::specs::Forms::form_bytes, rules::specs::Forms::bytes_of, rules::specs::Events::event_bytes))]
-pub fn write_event(out: &mut [u8], e: Event)
+// A form's bytes, its code, bits and time swapped. The compiler makes of each number's line one instruction that turns its bytes round and one store.
+fn lay_out(out: &mut [u8], form: EventForm)
     requires { 22 ≤ length out.old }
-    ensures { out.new ≡ event_bytes e ++ drop 22 out.old }
+    ensures { out.new ≡ laid_out form.kind form.pad form.name (swapped_of 8 form.code) (swapped_of 8 form.bits) (swapped_of 8 form.time)
+        ++ drop 22 out.old }
 {
-    let form = events::form_of(e);
     out[..6].copy_from_slice(&[0, EVENT_COUNT, VERSION, form.kind, form.pad, form.name]);
     out[6..10].copy_from_slice(&form.code.to_be_bytes());
     out[10..14].copy_from_slice(&form.bits.to_be_bytes());
     out[14..EVENT_SIZE].copy_from_slice(&form.time.to_be_bytes());
+}
+
+// One event at the start of the part that is lent; the bytes after it stay. The pump lends "the out buffer's part starting at 22 times the
+// events already written".
+#[tactic(auto, unfolding(rules::specs::Events::event_bytes))]
+pub fn write_event(out: &mut [u8], e: Event)
+    requires { 22 ≤ length out.old }
+    ensures { out.new ≡ event_bytes e ++ drop 22 out.old }
+{
+    lay_out(out, events::form_of(e));
 }
 
 // ---- the record that a step looks at

@@ -5,7 +5,8 @@ use Rattle.std.specs.Float.{nan, binary32}
 use Rattle.std.specs.Float.Ieee.{of_bits}
 use Rattle.std.specs.Float.Ieee.Bits.{nan_bits_is, nan_bits_above}
 use borrow.Author.Tests.{lt-ltb}
-use Rattle.binary32.proofs.Told.{nan_value, the_nan}
+use Rattle.binary32.specs.Patterns.{nan_value}
+use Rattle.binary32.proofs.Told.{the_nan}
 use Rattle.binary32.proofs.of_bits.Goals as goal
 
 above : (bits : ℕ) → 0x7f800000 < bits % 0x80000000 → of_bits binary32 bits ≡ nan

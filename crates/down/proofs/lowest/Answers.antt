@@ -6,7 +6,7 @@ use Rattle.down.proofs.lowest.Goals as goal
 
 pub returns : goal.returns
 returns c =
-    let is = c.min.ensures ∙ lowest-is c.read.result in (
+    let is = c.least.ensures ∙ lowest-is c.read.result in (
       is ∙ ap lowest_of c.read.ensures,
       omega (arith, is, lowest-small c.read.result),
     )

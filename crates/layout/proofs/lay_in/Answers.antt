@@ -1,7 +1,7 @@
 -- `layout::lay_in` meets its contract: a good sheet has the bytes that are read, and a turn lays one row more in each of the arrays.
 use Rattle.std.proofs.Common.{sym, ◌∙◌, arith}
 use Rattle.rules.specs.Sheets.{count_of}
-use Rattle.layout.specs.Laid.{laid_none, laid-row, row_inside, row_is, rest-left, all_laid}
+use Rattle.layout.specs.Laid.{laid_none, laid-row, first_inside, first_is, others-left, none-left}
 use Rattle.layout.specs.Laying.{first_rows, none_left}
 use Rattle.layout.proofs.lay_in.Goals as goal
 
@@ -16,12 +16,12 @@ loop-k-preserved c =
     let left = sym (c.next-row.ensures.rows l.k c.loop-k-test.true) ∙ l.invariant.2 in (
       omega arith,
       omega arith,
-      rest-left _ l.k left,
-      laid-row _ _ _ _ _ _ _ l.k (row_inside _ l.k left) (row_is _ l.k left) l.invariant.3 c.put_element.ensures,
+      others-left _ l.k left,
+      laid-row _ _ _ _ _ _ _ l.k (first_inside _ l.k left) (first_is _ l.k left) l.invariant.3 c.put_element.ensures,
     )
 
 pub returns : goal.returns
 unfolding count_of
 returns c =
     let l = c.loop-k in
-    rw (all_laid _ l.k (sym (none_left l.k _ _ _ c.loop-k-test.false) ∙ l.invariant.2)) at l.invariant.3
+    rw (none-left _ l.k (sym (none_left l.k _ _ _ c.loop-k-test.false) ∙ l.invariant.2)) at l.invariant.3

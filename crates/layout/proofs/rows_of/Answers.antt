@@ -2,7 +2,7 @@
 use Rattle.std.proofs.Common.{refl, List, ◌++◌, sym, ◌∙◌, ap, arith, take, length-set}
 use Rattle.rules.specs.declared.Row.{Row}
 use Rattle.rules.specs.Sheets.{count_of}
-use Rattle.layout.specs.Rows.{laid_next, laid-all}
+use Rattle.layout.specs.Rows.{row_laid, rows-laid}
 use Rattle.layout.specs.Laying.{first_rows, none_left}
 use Rattle.layout.proofs.rows_of.Goals as goal
 
@@ -18,11 +18,11 @@ loop-row-preserved c =
       simp length-set l.invariant.0,
       omega arith,
       omega arith,
-      laid_next l.row-items _ _ l.row-index (omega (arith, l.invariant.0)) ∙ ap (λ (rest : List Row). take l.row-index l.row-items ++ rest) (sym (next.rows l.row-index c.loop-row-test.true)) ∙ l.invariant.3,
+      row_laid l.row-items _ _ l.row-index (omega (arith, l.invariant.0)) ∙ ap (λ (rest : List Row). take l.row-index l.row-items ++ rest) (sym (next.rows l.row-index c.loop-row-test.true)) ∙ l.invariant.3,
     )
 
 pub returns : goal.returns
 unfolding count_of
 returns c =
     let l = c.loop-row in
-    laid-all _ _ l.row-index (omega (arith, l.invariant.0)) (none_left l.row-index _ _ _ c.loop-row-test.false) ∙ l.invariant.3
+    rows-laid _ _ l.row-index (omega (arith, l.invariant.0)) (none_left l.row-index _ _ _ c.loop-row-test.false) ∙ l.invariant.3

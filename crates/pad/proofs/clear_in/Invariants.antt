@@ -1,7 +1,6 @@
--- The invariant: taking off what is left to take off gives what the whole gives.
-use Rattle.std.proofs.Common.{◌≡◌, ◌+◌, ◌-◌}
-use Rattle.rules.specs.Places.{cleared_of}
+-- The invariant: of the marks that are lent on, those passed are off.
+use Rattle.std.proofs.Common.{◌≡◌, ◌≤◌, false, take, replicate}
 use Rattle.pad.proofs.clear_in.Given as goal
 
-abbrev pub invariant-loop-at : goal.invariant-loop-at
-invariant-loop-at l = cleared_of l.marks l.at (l.start + l.n - l.at) ≡ cleared_of l.fn.marks l.start l.n
+abbrev pub invariant-loop-mark : goal.invariant-loop-mark
+invariant-loop-mark l = (l.mark-index ≤ l.mark-index-end) × (take l.mark-index l.mark-items ≡ replicate l.mark-index false)

@@ -1,23 +1,17 @@
--- `wire::write_event` meets its contract: behind the last part that is written the buffer is as it was.
-use Rattle.std.proofs.Common.{◌≡◌, List, ℕ, drop, refl, div-one, drop-drop}
-use Rattle.rules.specs.Forms.{bytes_of, form_bytes}
-use Rattle.rules.specs.Events.{event_bytes}
+-- `wire::write_event` meets its contract: `Bytes` says that the bytes laid out of the swapped numbers are the form's.
+use Rattle.std.proofs.Common.{◌≡◌, List, ℕ, ◌++◌, drop, ap, ◌∙◌}
+use Rattle.rules.specs.declared.Event.{Event}
+use Rattle.rules.specs.declared.EventForm.{EventForm}
+use Rattle.rules.specs.Forms.{form_bytes}
+use Rattle.rules.specs.Events.{form_of, event_bytes}
+use Rattle.wire.specs.Bytes.{swapped_of, laid_out, laid_out-is}
 use Rattle.wire.proofs.write_event.Goals as goal
 
-behind : (out : List ℕ) → drop 8 (drop 4 (drop 4 (drop 6 out))) ≡ drop 22 out
-behind out = rw (drop-drop 4 6 out, drop-drop 4 10 out, drop-drop 8 14 out) refl
+of-event : (f : EventForm) (e : Event) (out : List ℕ) {bytes : List ℕ} → f ≡ form_of e
+    → bytes ≡ laid_out f.kind f.pad f.name (swapped_of 8 f.code) (swapped_of 8 f.bits) (swapped_of 8 f.time) ++ drop 22 out
+    → bytes ≡ event_bytes e ++ drop 22 out
+unfolding event_bytes
+of-event f e out is laid = laid ∙ ap (λ (l : List ℕ). l ++ drop 22 out) (laid_out-is f ∙ ap form_bytes is)
 
 pub returns : goal.returns
-unfolding event_bytes form_bytes bytes_of
-returns c =
-    rw (
-      c.copy_from_slice.ensures.after,
-      c.copy_from_slice-2.ensures.after,
-      c.copy_from_slice-3.ensures.after,
-      c.copy_from_slice-4.ensures.after,
-      c.to_be_bytes.ensures,
-      c.to_be_bytes-2.ensures,
-      c.to_be_bytes-3.ensures,
-      c.form_of-form.ensures,
-      behind c.args.out.now,
-    ) (simp div-one refl)
+returns c = of-event c.form_of.result c.args.e c.args.out.now c.form_of.ensures c.lay_out.ensures
