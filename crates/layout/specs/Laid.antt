@@ -85,8 +85,8 @@ module _ {row : Row} {rest : List Row} (rows : List Row) (k : ℕ) (left : row �
   pub others-left : rest ≡ drop (k + 1) rows
   others-left = ap (drop 1) left ∙ drop-drop 1 k rows
 
-pub none-left : (rows : List Row) (k : ℕ) → [] ≡ drop k rows → take k rows ≡ rows
-none-left rows k left = take_all k rows (omega (arith, length-drop k rows, ap length left))
+pub laid_whole : (rows : List Row) (k : ℕ) → [] ≡ drop k rows → take k rows ≡ rows
+laid_whole rows k left = take_all k rows (omega (arith, length-drop k rows, ap length left))
 
 -- ---- the rows that are left, with k of the places laid
 
@@ -120,4 +120,4 @@ module _ (s : List ℕ) (n i d last : ℕ) (rows : List Row) (k : ℕ) (left : r
   unfolding rows_from
   all_laid past =
       let none : places_per_pad - k ≡ 0 = omega arith in
-      none-left rows k (rw none at left)
+      laid_whole rows k (rw none at left)

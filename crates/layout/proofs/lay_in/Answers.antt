@@ -1,7 +1,7 @@
 -- `layout::lay_in` meets its contract: a good sheet has the bytes that are read, and a turn lays one row more in each of the arrays.
 use Rattle.std.proofs.Common.{sym, ◌∙◌, arith}
 use Rattle.rules.specs.Sheets.{count_of}
-use Rattle.layout.specs.Laid.{laid_none, laid-row, first_inside, first_is, others-left, none-left}
+use Rattle.layout.specs.Laid.{laid_none, laid-row, first_inside, first_is, others-left, laid_whole}
 use Rattle.layout.specs.Laying.{first_rows, none_left}
 use Rattle.layout.proofs.lay_in.Goals as goal
 
@@ -24,4 +24,4 @@ pub returns : goal.returns
 unfolding count_of
 returns c =
     let l = c.loop-k in
-    rw (none-left _ l.k (sym (none_left l.k _ _ _ c.loop-k-test.false) ∙ l.invariant.2)) at l.invariant.3
+    rw (laid_whole _ l.k (sym (none_left l.k _ _ _ c.loop-k-test.false) ∙ l.invariant.2)) at l.invariant.3
